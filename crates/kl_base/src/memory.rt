@@ -1,0 +1,24 @@
+// Want of memory, as an answer of its own.
+ghost use Rattle.std.specs.Prelude.{◌≡◌};
+
+use std::alloc::{AllocError, AllocFailed};
+
+/// Memory ran out.
+#[derive(Clone, Copy, Debug, PartialEq, Eq)]
+pub struct NoMemory;
+
+impl From<AllocError> for NoMemory {
+    ghost from_gives = { λ _ e. e ≡ record {} };
+
+    fn from(_: AllocError) -> Self {
+        NoMemory
+    }
+}
+
+impl<T: Drop> From<AllocFailed<T>> for NoMemory {
+    ghost from_gives = { λ _ e. e ≡ record {} };
+
+    fn from(_: AllocFailed<T>) -> Self {
+        NoMemory
+    }
+}

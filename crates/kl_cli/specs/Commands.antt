@@ -1,0 +1,23 @@
+-- The words of the command line.
+use Rattle.std.specs.Prelude.{ℕ, ◌≤◌, Bool, cond, ◌&&◌, nat_le, List, [], ◌∷◌, length, codes, is_none, Option, Some, None}
+use Rattle.std.specs.Str.{bytes_eq}
+use Rattle.kl_base.specs.Names.{name_fault}
+use Rattle.kl_cli.specs.declared.command.Command.{Command}
+use Rattle.kl_cli.specs.declared.command.Command.TheVariants.{Link}
+
+-- the folder of a kit is a name of at most 127 bytes
+abbrev pub is_folder : List ℕ → Bool
+is_folder w = nat_le (length w) 127 && is_none (name_fault w)
+
+-- `link DIR`
+abbrev pub link_of : List ℕ → List ℕ → Option Command
+link_of word dir = cond (bytes_eq word (codes "link") && is_folder dir) (Some (Link dir)) None
+
+-- the command that the words are, if they are one
+abbrev pub command_of : List (List ℕ) → Option Command
+command_of (word ∷ dir ∷ []) = link_of word dir
+command_of _ = None
+
+-- what a command's words had
+abbrev pub IsCommand : Command → Type 0
+IsCommand (Link dir) = length dir ≤ 127

@@ -1,0 +1,109 @@
+// What the program answers.
+use kl_base::{Name, NoMemory};
+use kl_store::Failed;
+use std::alloc::AllocFailed;
+
+/// How a command ended, in the order in which refusals are asked.
+#[derive(Clone, Copy, Debug, PartialEq, Eq)]
+pub enum Cause {
+    /// All was done.
+    Done,
+    /// The words are no command.
+    Usage,
+    /// Memory ran out.
+    NoMemory,
+    /// A call of the store failed.
+    Store,
+    /// The kit isn't read.
+    Kit(KitCause),
+    /// The kit text or the object is of a form that isn't linked yet.
+    NotYet,
+}
+
+/// Why a kit isn't read.
+#[derive(Clone, Copy, Debug, PartialEq, Eq)]
+pub enum KitCause {
+    /// There is no file of the name.
+    Absent(Name),
+    /// The file is longer than its limit.
+    TooLong(Name),
+}
+
+/// How a command ended: the status that the process ends with, its cause, and the number of batches of files that were
+/// installed.
+#[derive(Clone, Copy, Debug, PartialEq, Eq)]
+pub struct Exit {
+    pub status: u8,
+    pub cause: Cause,
+    pub batches: u32,
+}
+
+impl Cause {
+    ghost use Rattle.std.specs.Prelude.{◌≡◌};
+    ghost use Rattle.kl_cli.specs.Answers.{status_of};
+
+    /// The status that a process ends with for this cause.
+    pub fn status(&self) -> u8
+        ensures { result ≡ status_of self.now }
+    {
+        match self {
+            Cause::Done => 0,
+            Cause::Usage => 2,
+            Cause::NoMemory => 3,
+            Cause::Store => 4,
+            Cause::Kit(_) => 12,
+            Cause::NotYet => 19,
+        }
+    }
+}
+
+impl Exit {
+    ghost use Rattle.std.specs.Prelude.{◌≡◌};
+    ghost use Rattle.kl_cli.specs.Answers.{status_of};
+
+    /// A command that ended so and installed nothing.
+    pub fn of(cause: Cause) -> Exit
+        ensures cause { result.cause ≡ cause }
+        ensures status { result.status ≡ status_of cause }
+        ensures batches { result.batches ≡ 0 }
+    {
+        Exit {
+            status: cause.status(),
+            cause,
+            batches: 0,
+        }
+    }
+}
+
+impl From<NoMemory> for Cause {
+    ghost use Rattle.std.specs.Prelude.{◌≡◌};
+    ghost use Rattle.kl_cli.specs.declared.exit.Cause.TheVariants as cause;
+
+    ghost from_gives = { λ _ e. e ≡ cause.NoMemory };
+
+    fn from(_: NoMemory) -> Self {
+        Cause::NoMemory
+    }
+}
+
+impl From<Failed> for Cause {
+    ghost use Rattle.std.specs.Prelude.{◌≡◌};
+    ghost use Rattle.kl_cli.specs.declared.exit.Cause.TheVariants as cause;
+
+    ghost from_gives = { λ _ e. e ≡ cause.Store };
+
+    fn from(_: Failed) -> Self {
+        Cause::Store
+    }
+}
+
+impl<T: Drop> From<AllocFailed<T>> for Cause {
+    ghost use Rattle.std.specs.Prelude.{◌≡◌};
+    ghost use Rattle.kl_cli.specs.declared.exit.Cause.TheVariants as cause;
+
+    ghost from_gives = { λ _ e. e ≡ cause.NoMemory };
+
+    fn from(_: AllocFailed<T>) -> Self {
+        Cause::NoMemory
+    }
+}

@@ -1,0 +1,12 @@
+//! The outside as the host has it: its files, its random device and its standard output. They tell nothing of content,
+//! so their contracts say only when a call may fail.
+mod disk;
+mod faults;
+mod store;
+mod streams;
+
+pub use store::HostStore;
+pub use streams::{HostEntropy, HostSink};
+
+#[cfg(test)]
+mod tests;

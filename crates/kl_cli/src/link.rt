@@ -1,0 +1,118 @@
+// `link DIR`: one kit, linked into the kit's own folder.
+ghost use Rattle.std.specs.Prelude.{◌≡◌, ◌≤◌, ◌∷◌, ◌++◌, None, Some, length, IfOk, IfErr, OnOk, IsErrOf};
+ghost use Rattle.std.specs.Option.{ForSome};
+ghost use Rattle.kl_store.specs.Calls.{HasCause, Rose, Stays};
+ghost use Rattle.kl_store.specs.Files.{SameFiles};
+ghost use Rattle.kl_model.specs.First.{FirstForm};
+ghost use Rattle.kl_cli.specs.Answers.{IsRefusal, Refuses, link_refusal};
+ghost use Rattle.kl_cli.specs.Links.{AreLinked, IsKitOf, Leaves};
+ghost use Rattle.kl_cli.specs.Writing.{PutsPair};
+ghost use Rattle.kl_cli.specs.declared.command.Command.TheVariants as command;
+ghost use Rattle.kl_base.specs.Names.{name_fault};
+
+use crate::exit::Cause;
+use crate::files::{read_file, write_file};
+use kl_base::{INPUT_LIMIT, KIT_TEXT_LIMIT, Name, NoMemory};
+use kl_first::{first_kit, kit_of, read_first_object};
+use kl_kernel::link_kernel;
+use kl_map::{Map, print_map};
+use kl_model::{Input, Kit};
+use kl_store::{Failed, Store};
+use std::alloc::Global;
+
+/// A kit and its inputs in kit order.
+#[derive(Drop)]
+struct Source {
+    kit: Kit,
+    inputs: Vec<Input>,
+}
+
+/// An image and the text of its map.
+#[derive(Drop)]
+struct Files {
+    image: Vec<u8>,
+    map: Vec<u8>,
+}
+
+/// Links the kit whose text is `DIR/link.conf`: writes the image to `DIR/linked.relink` and the map of its placement to
+/// `DIR/linked.map.relink`, and settles.
+pub fn link<S: Store>(alloc: Global, dir: &Name, store: &mut S) -> Result<(), Cause>
+    requires { length dir.now ≤ 127 }
+    ensures done { OnOk result (Leaves (Some (command.Link dir.now)) (S.meaning store.old) (S.meaning store.new)) }
+    ensures stands { OnOk result (ForSome (S.meaning store.old).names (λ m. link_refusal m dir.now ≡ None)) }
+    ensures refused { IfErr result (Refuses (S.meaning store.old) (λ m. link_refusal m dir.now)) }
+    ensures refusal { IfErr result IsRefusal }
+    ensures failed { IsErrOf result Cause.Store → Rose (S.faults store.old) (S.faults store.new) }
+    ensures files { SameFiles (S.meaning store.old) (S.meaning store.new) }
+{
+    let source = read_source(alloc, dir, store)?;
+    let files = link_source(alloc, &source)?;
+    write_pair(store, dir, &files.image, &files.map)?;
+    Ok(())
+}
+
+/// The image of a kit and the text of its map.
+fn link_source(alloc: Global, source: &Source) -> Result<Files, NoMemory>
+    requires { FirstForm source.now.kit source.now.inputs.items }
+    ensures { IfOk result (λ f. AreLinked source.now.kit source.now.inputs.items f.image.items f.map.items) }
+{
+    let Ok(linked) = link_kernel(alloc, &source.kit, &source.inputs, None, &[]) else {
+        return Err(NoMemory);
+    };
+    let image = linked.image;
+    let map = Map {
+        output: source.kit.output,
+        seed: [0; 32],
+        placement: linked.placement,
+    };
+    let map = print_map(alloc, &map)?;
+    Ok(Files { image, map })
+}
+
+/// Reads the kit of a folder and its input.
+fn read_source<S: Store>(alloc: Global, dir: &Name, store: &mut S) -> Result<Source, Cause>
+    requires { length dir.now ≤ 127 }
+    ensures reads { IfOk result (λ s. ForSome (S.meaning store.old).names (λ m. IsKitOf m dir.now s.kit s.inputs.items)) }
+    ensures stands { OnOk result (ForSome (S.meaning store.old).names (λ m. link_refusal m dir.now ≡ None)) }
+    ensures form { IfOk result (λ s. FirstForm s.kit s.inputs.items) }
+    ensures refused { IfErr result (Refuses (S.meaning store.old) (λ m. link_refusal m dir.now)) }
+    ensures refusal { IfErr result IsRefusal }
+    ensures failed { IsErrOf result Cause.Store → Rose (S.faults store.old) (S.faults store.new) }
+    ensures faults { S.faults store.old ≤ S.faults store.new }
+    ensures still { Stays (S.meaning store.old) (S.meaning store.new) }
+{
+    let text = read_file(alloc, store, &file_in(dir, b"link.conf"), KIT_TEXT_LIMIT)?;
+    let Some(first) = first_kit(&text) else {
+        return Err(Cause::NotYet);
+    };
+    let bytes = read_file(alloc, store, &file_in(dir, first.file), INPUT_LIMIT)?;
+    let Some(input) = read_first_object(alloc, bytes, first.entry)? else {
+        return Err(Cause::NotYet);
+    };
+    Ok(Source {
+        kit: kit_of(alloc, &first)?,
+        inputs: vec![in alloc; input]?,
+    })
+}
+
+/// The name of a file in a folder.
+fn file_in(dir: &Name, file: &[u8]) -> Name
+    requires dir { length dir.now ≤ 127 }
+    requires file { length file.now ≤ 127 }
+    requires name { name_fault (47 ∷ file.now) ≡ None }
+    ensures { result ≡ dir.now ++ 47 ∷ file.now }
+{
+    dir.join(&Name::at_root(file).unwrap())
+}
+
+/// Writes the image and the map of a folder, and settles.
+fn write_pair<S: Store>(store: &mut S, dir: &Name, image: &[u8], map: &[u8]) -> Result<(), Failed>
+    requires { length dir.now ≤ 127 }
+    ensures pair { OnOk result (PutsPair dir.now image.now map.now (S.meaning store.old) (S.meaning store.new)) }
+    ensures files { SameFiles (S.meaning store.old) (S.meaning store.new) }
+    ensures cause { HasCause (S.faults store.old) (S.faults store.new) result }
+{
+    write_file(store, &file_in(dir, b"linked.relink"), image)?;
+    write_file(store, &file_in(dir, b"linked.map.relink"), map)?;
+    store.settle()
+}

@@ -1,0 +1,47 @@
+//! `relink`: links a kernel anew from kept object files.
+#![tactic(auto)]
+
+mod command;
+mod exit;
+mod files;
+mod host;
+mod link;
+mod run;
+
+use crate::host::{HostEntropy, HostSink, HostStore};
+pub use command::Command;
+pub use exit::{Cause, Exit, KitCause};
+pub use run::run;
+use std::env;
+use std::io::{self, ErrorKind};
+use std::process::ExitCode;
+use std::rt::Env;
+
+#[cfg(test)]
+mod tests;
+
+fn main(rt: HostRuntime) -> ExitCode {
+    let alloc = rt.alloc();
+    let words = match words_after_name(&rt) {
+        Ok(words) => words,
+        Err(e) if e.kind() == ErrorKind::OutOfMemory => {
+            return ExitCode::from(Cause::NoMemory.status());
+        }
+        // a word that isn't UTF-8 is no command
+        Err(_) => Vec::new(alloc),
+    };
+    let mut store = HostStore::new(&rt, alloc);
+    let mut entropy = HostEntropy::new(&rt);
+    let mut out = HostSink::new(&rt);
+    let exit = run(alloc, &words, &mut store, &mut entropy, &mut out);
+    ExitCode::from(exit.status)
+}
+
+/// The words of the command line after the program's name.
+fn words_after_name<R: Env + AllocGlobal>(rt: &R) -> io::Result<Vec<Vec<u8>>> {
+    let mut words = Vec::new(rt.alloc());
+    for word in env::args(rt)?.skip(1) {
+        words.push(word.into_bytes())?;
+    }
+    Ok(words)
+}

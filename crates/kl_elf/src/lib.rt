@@ -1,0 +1,13 @@
+//! The records of an ELF64 file: headers, sections, symbols, relocations and dynamic entries.
+#![tactic(auto)]
+
+mod head;
+mod image;
+mod records;
+
+pub use head::{HeadFault, read_ehdr};
+pub use image::write_headers;
+pub use records::{Dyn, Ehdr, Phdr, Rela, Shdr, Sym};
+
+#[cfg(test)]
+mod tests;

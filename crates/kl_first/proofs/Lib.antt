@@ -1,0 +1,3 @@
+pub mod KitTexts
+pub mod ObjectFiles
+pub mod FirstForms

@@ -1,0 +1,17 @@
+use Rattle.std.proofs.Common.{◌≡◌, ◌∙◌, ◌+◌, ◌-◌, sym, refl, ap, take, drop, length, arith, length-drop}
+use Rattle.std.proofs.lemmas.List.{take_all}
+use Rattle.kl_first.specs.KitText.{first_line}
+use Rattle.kl_first.proofs.KitTexts.{first_line-none, first_line-some}
+use Rattle.kl_first.proofs.kit.split_line.Goals as goal
+
+pub returns-in_err-end : goal.returns-in_err-end
+returns-in_err-end c = rw c.from_residual.ensures (sym (first_line-none c.args.text.now 0 (sym c.newline.ensures.place ∙ c.in_err-end.was)))
+
+pub returns : goal.returns
+returns c =
+    let n = c.in_ok-end.end in
+    let text = c.args.text.now in
+    let r = first_line-some text 0 n (sym c.newline.ensures.place ∙ c.in_ok-end.was) in
+    let same : n ≡ r.0 = (let e = r.1 in omega arith) in
+    let all = take_all (length text - (n + 1)) (drop (n + 1) text) (omega (arith, length-drop (n + 1) text)) in
+    rw all (sym (rw (← same) at r.2))

@@ -1,0 +1,74 @@
+-- The kit texts that are read: four lines that name an entry and one head input.
+use Rattle.std.specs.Prelude.{ℕ, ◌+◌, ◌≡◌, Bool, true, false, not, cond, ◌&&◌, ◌==◌, nat_le, nat_eq, List, [], ◌∷◌, ◌++◌, length, take, drop, codes, is_none, Option, Some, None}
+use Rattle.std.specs.Str.{bytes_eq}
+use Rattle.std.specs.Option.{option_map, option_and_then}
+use Rattle.std.specs.List.{list_all, ends_with}
+use Rattle.kl_base.specs.Names.{name_fault, is_path_byte}
+use Rattle.kl_model.specs.declared.kit.Kit.{Kit}
+use Rattle.kl_model.specs.declared.kit.KitKind.TheVariants.{Kernel}
+use Rattle.kl_model.specs.declared.object.Part.TheVariants.{Head}
+
+-- bytes and a newline
+abbrev pub line : List ℕ → List ℕ
+line bytes = bytes ++ 10 ∷ []
+
+-- a SYMBOL is 1 to 255 bytes from 0x21 to 0x7e
+abbrev pub is_symbol : List ℕ → Bool
+is_symbol w = not (length w == 0) && (nat_le (length w) 255 && list_all is_path_byte w)
+
+-- a FILE is a name without its first slash, of at most 127 bytes, not `link.conf`, and not ending in `.relink`
+abbrev pub is_file : List ℕ → Bool
+is_file f = nat_le (length f) 127 && (is_none (name_fault (47 ∷ f)) && (not (bytes_eq f (codes "link.conf")) && not (ends_with nat_eq f (codes ".relink"))))
+
+-- the text of such a kit
+abbrev pub text_of : List ℕ → List ℕ → List ℕ
+text_of symbol file =
+    line (codes "kind kernel") ++ (line (codes "output /bsd") ++ (line (codes "entry " ++ symbol) ++ line (codes "head " ++ file)))
+
+-- a text is that of a kit with this entry and this input
+pub record IsFirstKit (text symbol file : List ℕ) : Type 0 where
+  pub text_is : text ≡ text_of symbol file
+  pub symbol_form : is_symbol symbol ≡ true
+  pub file_form : is_file file ≡ true
+
+-- the entry and the input of a text of that form, as they are found from the left
+abbrev pub opening : List ℕ
+opening = line (codes "kind kernel") ++ (line (codes "output /bsd") ++ codes "entry ")
+
+abbrev pub after_prefix : List ℕ → List ℕ → Option (List ℕ)
+after_prefix p text = cond (bytes_eq (take (length p) text) p) (Some (drop (length p) text)) None
+
+abbrev pub is_newline : ℕ → Bool
+is_newline b = b == 10
+
+-- the first line of a text that has a newline, and what follows it
+abbrev pub first_line : List ℕ → Option (List ℕ × List ℕ)
+first_line [] = None
+first_line (b ∷ text) = cond (is_newline b) (Some ([], text)) (option_map (λ (l, rest). (b ∷ l, rest)) (first_line text))
+
+abbrev pub words_of : List ℕ → List ℕ × List ℕ → Option (List ℕ × List ℕ)
+words_of symbol (file, rest) = cond (length rest == 0) (cond (is_symbol symbol && is_file file) (Some (symbol, file)) None) None
+
+abbrev pub head_of : List ℕ × List ℕ → Option (List ℕ × List ℕ)
+head_of (symbol, rest) = option_and_then (λ r. option_and_then (words_of symbol) (first_line r)) (after_prefix (codes "head ") rest)
+
+unfoldable pub first_kit : List ℕ → Option (List ℕ × List ℕ)
+first_kit text = option_and_then (λ r. option_and_then head_of (first_line r)) (after_prefix opening text)
+
+-- the kit of such a text: a kernel `/bsd` at the default base
+abbrev pub kit_of : List ℕ → List ℕ → Kit
+kit_of symbol file = record {
+  kind = Kernel;
+  output = codes "/bsd";
+  base = 0xffffffff81000000;
+  entry = Some symbol;
+  inputs = record { place = Head; file = file; line = 4 } ∷ [];
+  runs = [];
+  edges = [];
+  drops = [];
+  needed = [];
+  exports = [];
+  soname = None;
+  symbolic = false;
+  refuse = false;
+}

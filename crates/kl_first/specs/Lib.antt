@@ -1,0 +1,3 @@
+pub mod KitText
+pub mod ObjectFile
+pub mod SectionsAt

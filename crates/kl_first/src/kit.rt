@@ -1,0 +1,101 @@
+// A kit text of four lines.
+ghost use Rattle.std.specs.Prelude.{◌≡◌, ◌≤◌, ◌<◌, ◌∷◌, ◌+◌, ℕ, List, Option, length, IfOk, IfSome, IfNone, true};
+ghost use Rattle.std.specs.Option.{option_map};
+ghost use Rattle.std.specs.List.{position_from};
+ghost use Rattle.kl_first.specs.KitText.{IsFirstKit, after_prefix, first_line, is_newline, first_kit, is_symbol, is_file, kit_of};
+
+use kl_base::{Listed, Name, NoMemory, are_path_bytes};
+use kl_model::{Kit, KitInput, KitKind, Part, Word};
+use std::alloc::Global;
+
+/// What a kit text of four lines says: the entry symbol, and the input file below the kit's folder.
+#[derive(Clone, Copy, Debug)]
+pub struct FirstKit<'a> {
+    pub entry: &'a [u8],
+    pub file: &'a [u8],
+}
+
+/// The words of a kit text that has exactly these four lines, each ended by a newline: `kind kernel`, `output /bsd`,
+/// `entry SYMBOL` and `head FILE`. `None` for every other text.
+pub fn first_kit(text: &[u8]) -> Option<FirstKit<'_>>
+    ensures found { IfSome result (λ k. IsFirstKit text.now k.entry.now k.file.now) }
+    ensures none { IfNone result ((symbol file : List ℕ) → ¬ IsFirstKit text.now symbol file) }
+    ensures words { option_map (λ k. (k.entry.now, k.file.now)) result ≡ first_kit text.now }
+{
+    parse(text)
+}
+
+#[tactic(auto, unfolding(crate::specs::KitText::first_kit))]
+fn parse(text: &[u8]) -> Option<FirstKit<'_>>
+    ensures { option_map (λ k. (k.entry.now, k.file.now)) result ≡ first_kit text.now }
+{
+    let rest = text.strip_prefix(b"kind kernel\noutput /bsd\nentry ")?;
+    let (entry, rest) = split_line(rest)?;
+    let (file, rest) = split_line(rest.strip_prefix(b"head ")?)?;
+    if rest.is_empty() && is_symbol(entry) && is_file(file) {
+        Some(FirstKit { entry, file })
+    } else {
+        None
+    }
+}
+
+// the first line without its newline, and what follows it
+fn split_line(text: &[u8]) -> Option<(&[u8], &[u8])>
+    ensures { option_map (λ x. (x.0.now, x.1.now)) result ≡ first_line text.now }
+{
+    let end = newline(text)?;
+    Some((&text[..end], &text[end + 1..]))
+}
+
+// the place of the first newline
+fn newline(text: &[u8]) -> Option<usize>
+    ensures place { result ≡ position_from is_newline 0 text.now }
+    ensures within { IfSome result (λ n. n < length text.now) }
+{
+    text.iter().position(|b| *b == b'\n')
+}
+
+fn is_symbol(word: &[u8]) -> bool
+    ensures { result ≡ is_symbol word.now }
+{
+    !word.is_empty() && word.len() <= 255 && are_path_bytes(word)
+}
+
+fn is_file(file: &[u8]) -> bool
+    ensures { result ≡ is_file file.now }
+{
+    file.len() <= 127
+        && Name::at_root(file).is_ok()
+        && file != b"link.conf".as_slice()
+        && !file.ends_with(b".relink")
+}
+
+/// The kit of such a text: a kernel `/bsd` of one head input at the default base.
+pub fn kit_of(alloc: Global, kit: &FirstKit<'_>) -> Result<Kit, NoMemory>
+    requires entry { is_symbol kit.now.entry.now ≡ true }
+    requires file { is_file kit.now.file.now ≡ true }
+    ensures { IfOk result (λ k. k ≡ kit_of kit.now.entry.now kit.now.file.now) }
+{
+    let entry = Word::from_vec(Vec::from_slice(alloc, kit.entry)?);
+    let file = Word::from_vec(Vec::from_slice(alloc, kit.file)?);
+    let input = KitInput {
+        place: Part::Head,
+        file,
+        line: 4,
+    };
+    Ok(Kit {
+        kind: KitKind::Kernel,
+        output: Name::from_bytes(b"/bsd").unwrap(),
+        base: 0xffff_ffff_8100_0000,
+        entry: Some(entry),
+        inputs: Listed::from_vec(vec![in alloc; input]?),
+        runs: Listed::new(alloc),
+        edges: Listed::new(alloc),
+        drops: Listed::new(alloc),
+        needed: Listed::new(alloc),
+        exports: Listed::new(alloc),
+        soname: None,
+        symbolic: false,
+        refuse: false,
+    })
+}

@@ -1,0 +1,3 @@
+pub mod FirstGraph
+pub mod FirstLaid
+pub mod FirstCarries

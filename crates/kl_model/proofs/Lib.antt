@@ -1,0 +1,3 @@
+pub mod Addresses
+pub mod Images
+pub mod Examples

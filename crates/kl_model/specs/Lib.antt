@@ -1,0 +1,11 @@
+pub mod Lists
+pub mod Texts
+pub mod Kept
+pub mod Names
+pub mod Graphs
+pub mod Line
+pub mod Laid
+pub mod Memory
+pub mod Reaches
+pub mod Carries
+pub mod First

@@ -1,0 +1,145 @@
+-- What stands in a class, in order.
+use Rattle.std.specs.Prelude.{ℕ, ◌+◌, ◌*◌, Bool, true, false, cond, not, ◌&&◌, ◌||◌, ◌==◌, List, [], ◌∷◌, ◌++◌, map, flat_map, length, slice_index, Option, Some, None}
+use Rattle.std.specs.List.{list_any}
+use Rattle.kl_model.specs.Lists.{each, only_if}
+use Rattle.kl_model.specs.Kept.{same_class, part_number, class_number}
+use Rattle.kl_base.specs.declared.class.Class.{Class}
+use Rattle.kl_base.specs.declared.class.Class.TheVariants.{Text, Rodata, Rwdata, Bss}
+use Rattle.kl_model.specs.declared.object.Part.{Part}
+use Rattle.kl_model.specs.declared.object.Part.TheVariants.{Head, Drawn, Tail}
+use Rattle.kl_model.specs.declared.graph.PieceId.{PieceId}
+use Rattle.kl_model.specs.declared.graph.PieceId.TheVariants as id
+use Rattle.kl_model.specs.declared.graph.Piece.{Piece}
+use Rattle.kl_model.specs.declared.graph.Field.{Field}
+use Rattle.kl_model.specs.declared.graph.Graph.{Graph}
+use Rattle.kl_model.specs.declared.graph.Target.{Target}
+use Rattle.kl_model.specs.declared.graph.Target.TheVariants.{Place, Abs, Edge, Name, Zero, Gone}
+use Rattle.kl_model.specs.declared.kit.Kit.{Kit}
+use Rattle.kl_model.specs.declared.place.Gaps.{Gaps}
+use Rattle.kl_model.specs.declared.place.Made.{Made}
+use Rattle.kl_model.specs.declared.place.Body.TheVariants as body
+use Rattle.kl_model.specs.declared.place.LinePart.{LinePart}
+
+-- the four classes in their order in memory
+abbrev pub classes : List Class
+classes = Text ∷ Rodata ∷ Rwdata ∷ Bss ∷ []
+
+-- parts in a row, and the area that they are, if they are one
+pub record Spread : Type 0 where
+  pub area : Option ℕ
+  pub parts : List LinePart
+
+abbrev pub same_flag : Bool → Bool → Bool
+same_flag true b = b
+same_flag false b = not b
+
+abbrev pub same_target : Target → Target → Bool
+same_target (Place n k) (Place m j) = (n == m) && (k == j)
+same_target (Abs n) (Abs m) = n == m
+same_target (Edge n e) (Edge m d) = (n == m) && same_flag e d
+same_target (Name n) (Name m) = n == m
+same_target Zero Zero = true
+same_target Gone Gone = true
+same_target _ _ = false
+
+-- the types that need a slot of the global offset table (psABI): GOTPCREL 9, GOTPCRELX 41, REX_GOTPCRELX 42
+abbrev pub is_slot_kind : ℕ → Bool
+is_slot_kind kind = (kind == 9) || ((kind == 41) || (kind == 42))
+
+-- each target that needs a slot, once, in the order of the first field that needs it; those seen before are left out
+abbrev pub slots_after : List Target → List Field → List Target
+slots_after seen [] = []
+slots_after seen (f ∷ fs) =
+    let new = only_if (is_slot_kind f.kind && (not (same_target f.target Gone) && not (list_any (same_target f.target) seen))) f.target in
+    new ++ slots_after (new ++ seen) fs
+
+-- the slots of the global offset table, by number
+abbrev pub slots : Graph → List Target
+slots g = slots_after [] g.fields
+
+-- the sizes of a kernel's made areas: a slot has eight bytes
+abbrev pub made_of : Kit → Graph → Made
+made_of kit g = record { stubs = 0; tables = 0; got = 8 * length (slots g); dynamic = 0 }
+
+-- a piece as a part
+abbrev pub piece_part : ℕ → Piece → LinePart
+piece_part n x = record { body = body.Piece n; size = x.size; align = x.align }
+
+-- the pieces that pass a test, as parts, in the graph's order
+abbrev pub piece_parts : Graph → (Piece → Bool) → List LinePart
+piece_parts g test = each g.pieces (λ n x. only_if (test x) (piece_part n x))
+
+abbrev pub is_of_input : ℕ → PieceId → Bool
+is_of_input i (id.Section j s) = i == j
+is_of_input i (id.Common n) = false
+is_of_input i (id.Gap c) = false
+
+abbrev pub is_common_id : PieceId → Bool
+is_common_id (id.Section j s) = false
+is_common_id (id.Common n) = true
+is_common_id (id.Gap c) = false
+
+-- the numbers of the inputs of a part of the kit
+abbrev pub inputs_in : Graph → Part → List ℕ
+inputs_in g part = each g.parts (λ i x. only_if (part_number x == part_number part) i)
+
+-- what f gives for each input by the sequence: head inputs, what stands between, drawn inputs in order, tail inputs
+abbrev pub sequence : Graph → List ℕ → List LinePart → (ℕ → List LinePart) → List LinePart
+sequence g order between f =
+    flat_map f (inputs_in g Head) ++ (between ++ (flat_map (λ d. f (slice_index (inputs_in g Drawn) d)) order ++ flat_map f (inputs_in g Tail)))
+
+abbrev pub gap_size : Gaps → Class → ℕ
+gap_size z Text = z.text
+gap_size z Rodata = z.rodata
+gap_size z Rwdata = z.rwdata
+gap_size z Bss = z.bss
+
+-- the gap of a class, where there are gaps; it is aligned to 16 bytes
+abbrev pub gap_parts : Option Gaps → Class → List LinePart
+gap_parts None c = []
+gap_parts (Some z) c = record { body = body.Gap c; size = gap_size z c; align = 16 } ∷ []
+
+-- the pieces of one input in an area or a run, or the ordinary ones, whose area is their class's number
+abbrev pub of_input : Graph → Class → ℕ → ℕ → List LinePart
+of_input g c area i = piece_parts g (λ x. is_of_input i x.id && (same_class x.class c && (x.area == area)))
+
+-- the ordinary pieces of a class, and its gap
+abbrev pub ordinary : Graph → Option Gaps → List ℕ → Class → Spread
+ordinary g gaps order c = record { area = None; parts = sequence g order (gap_parts gaps c) (of_input g c (class_number c)) }
+
+-- the runs of a class, in line order
+abbrev pub run_spreads : Kit → Graph → List ℕ → Class → List Spread
+run_spreads kit g order c = each kit.runs (λ k r. only_if (same_class r.class c)
+    (record { area = Some (15 + k); parts = sequence g order [] (of_input g c (15 + k)) }))
+
+-- an area of pieces, which stand in kit order
+abbrev pub area_spread : Graph → ℕ → Spread
+area_spread g n = record { area = Some n; parts = piece_parts g (λ x. x.area == n) }
+
+-- a made area, which is one part where it isn't empty
+abbrev pub made_parts : ℕ → ℕ → ℕ → List LinePart
+made_parts n size align = only_if (not (size == 0)) (record { body = body.Area n; size = size; align = align })
+
+abbrev pub made_spread : ℕ → ℕ → ℕ → Spread
+made_spread n size align = record { area = Some n; parts = made_parts n size align }
+
+-- what follows the ordinary pieces and the runs in a kernel: init 4, fini 5, stubs 6; eh_frame 7, tables 8, got 13;
+-- ctors 9, dtors 10, init_array 11, fini_array 12, dynamic 14; the commons
+abbrev pub last_spreads : Graph → Made → Class → List Spread
+last_spreads g made Text = area_spread g 4 ∷ area_spread g 5 ∷ made_spread 6 made.stubs 16 ∷ []
+last_spreads g made Rodata = area_spread g 7 ∷ made_spread 8 made.tables 8 ∷ made_spread 13 made.got 8 ∷ []
+last_spreads g made Rwdata = area_spread g 9 ∷ area_spread g 10 ∷ area_spread g 11 ∷ area_spread g 12 ∷ made_spread 14 made.dynamic 8 ∷ []
+last_spreads g made Bss = record { area = None; parts = piece_parts g (λ x. is_common_id x.id) } ∷ []
+
+abbrev pub spreads : Kit → Graph → Option Gaps → List ℕ → Made → Class → List Spread
+spreads kit g gaps order made c = ordinary g gaps order c ∷ (run_spreads kit g order c ++ last_spreads g made c)
+
+-- the parts of a class in order
+abbrev pub line : Kit → Graph → Option Gaps → List ℕ → Made → Class → List LinePart
+line kit g gaps order made c = flat_map (λ s. s.parts) (spreads kit g gaps order made c)
+
+-- every piece, every gap and every made area that isn't empty
+abbrev pub every_part : Graph → Option Gaps → Made → List LinePart
+every_part g gaps made =
+    each g.pieces (λ n x. piece_part n x ∷ []) ++ (flat_map (gap_parts gaps) classes
+    ++ (made_parts 6 made.stubs 16 ++ (made_parts 8 made.tables 8 ++ (made_parts 13 made.got 8 ++ made_parts 14 made.dynamic 8))))

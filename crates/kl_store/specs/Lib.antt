@@ -1,0 +1,9 @@
+pub mod Names
+pub mod Meaning
+pub mod Calls
+pub mod Outside
+pub mod Files
+pub mod FileMap
+pub mod Counts
+pub mod Flat
+pub mod Lists

@@ -1,0 +1,86 @@
+# What the scripts of the examples have in common.
+
+root=$(cd "$(dirname "${BASH_SOURCE[0]}")/.." && pwd)
+built=$root/crates/kl_cli/out/kl_cli
+relink=$root/build/relink
+
+fail() {
+    printf 'examples/%s/run: %s\n' "$example" "$*" >&2
+    exit 1
+}
+
+# Each of the tools must be there.
+need() {
+    local tool
+    for tool in "$@"; do
+        command -v "$tool" >/dev/null && continue
+        case $tool in
+        as | objcopy | readelf) fail "$tool is missing: install the GNU binutils" ;;
+        rt) fail "rt is missing: install the Rattle toolchain, which proves and builds relink" ;;
+        *) fail "$tool is missing: install it" ;;
+        esac
+    done
+}
+
+# Whether the program was built, and no source is newer than it.
+is_built() {
+    [ -x "$built" ] || return 1
+    [ -z "$(find "$root/crates.txt" "$root/crates" -path '*/out' -prune -o \
+        -type f \( -name '*.rt' -o -name '*.antt' -o -name crates.txt \) -newer "$built" -print -quit)" ]
+}
+
+# Proves and builds the program where that is needed, and copies it to build/relink. `rt run` also runs it, here without words.
+build_relink() {
+    local log=$root/build/rt.log
+    mkdir -p "$root/build"
+    if ! is_built; then
+        need rt
+        echo "proving and building relink, which takes some minutes the first time"
+        rm -f "$built"
+        (cd "$root/crates/kl_cli" && rt run --) >"$log" 2>&1 </dev/null || true
+        if [ ! -x "$built" ]; then
+            tail -n 20 "$log" >&2
+            fail "relink was not built: build/rt.log, which ends with the lines above, says why"
+        fi
+    fi
+    cp "$built" "$relink"
+}
+
+# set_up NAME TOOL..: with these tools there, builds the program and makes build/NAME/kit anew, with the text of the kit. To a
+# program that is started in build/NAME that folder is /kit.
+set_up() {
+    example=$1
+    shift
+    need "$@"
+    build_relink
+    folder=$root/build/$example
+    kit=$folder/kit
+    rm -rf "$folder"
+    mkdir -p "$kit"
+    cp "$root/examples/$example/link.conf" "$kit/link.conf"
+}
+
+# Links the kit, and shows the object, the image and the map. The image ends with the object's code, from 4,096 on.
+link_and_show() {
+    local status=0 code=$folder/code
+    echo
+    echo "== the object"
+    readelf -SsW "$kit/kernel.o"
+    echo
+    echo "== relink link /kit"
+    (cd "$folder" && "$relink" link /kit) || status=$?
+    echo "status $status"
+    case $status in
+    0) ;;
+    19) fail "the kit or the object is of a form that is not linked yet: docs/formats.md says which forms are" ;;
+    *) fail "relink ended with status $status: docs/formats.md says what it means" ;;
+    esac
+    echo
+    echo "== the image: build/$example/kit/linked.relink"
+    readelf -hlW "$kit/linked.relink"
+    objcopy -O binary -j .text "$kit/kernel.o" "$code"
+    tail -c +4097 "$kit/linked.relink" | cmp - "$code" || fail "the code in the image is not the object's"
+    echo
+    echo "== the map: build/$example/kit/linked.map.relink"
+    cat "$kit/linked.map.relink"
+}
