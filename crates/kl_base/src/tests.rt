@@ -22,3 +22,22 @@ fn refuses_what_is_no_name(rt: HostRuntime) {
         assert_eq!(rt; Name::from_bytes(bytes).err(), Some(fault), "at {bytes:?}");
     }
 }
+
+#[test]
+fn joins_names(rt: HostRuntime) -> Result<(), Fail> {
+    let kit = Name::from_bytes(b"/kit")?;
+    let file = Name::at_root(b"k.o")?;
+    assert_eq!(rt; file.bytes(), b"/k.o".as_slice());
+    assert_eq!(rt; kit.join(&file).bytes(), b"/kit/k.o".as_slice());
+    assert_eq!(rt; Name::at_root(b"").err(), Some(NameFault::EmptyPart));
+    Ok(())
+}
+
+#[test]
+fn lists_items(rt: HostRuntime) -> Result<(), Fail> {
+    let mut list = Listed::new(rt.alloc());
+    list.push(7u8)?;
+    assert_eq!(rt; list.items(), [7].as_slice());
+    assert!(rt; list == Listed::from_vec(vec![in rt.alloc(); 7]?));
+    Ok(())
+}
