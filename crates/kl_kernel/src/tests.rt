@@ -74,6 +74,27 @@ fn links_three_bytes(rt: HostRuntime) -> Result<(), Fail> {
         &linked.image[24..32],
         [0, 0, 0, 0x81, 0xff, 0xff, 0xff, 0xff].as_slice()
     );
+    assert_eq!(rt; &linked.image[56..58], [1, 0].as_slice(), "program headers");
+    assert_eq!(rt;
+        &linked.image[64..72],
+        [1, 0, 0, 0, 5, 0, 0, 0].as_slice(),
+        "type and flags"
+    );
+    assert_eq!(rt;
+        &linked.image[72..80],
+        [0, 16, 0, 0, 0, 0, 0, 0].as_slice(),
+        "offset"
+    );
+    assert_eq!(rt;
+        &linked.image[96..104],
+        [3, 0, 0, 0, 0, 0, 0, 0].as_slice(),
+        "file size"
+    );
+    assert_eq!(rt;
+        &linked.image[104..112],
+        [3, 0, 0, 0, 0, 0, 0, 0].as_slice(),
+        "memory size"
+    );
     assert_eq!(rt; &linked.image[4096..], b"\xf4\xeb\xfd".as_slice());
     Ok(())
 }

@@ -1,22 +1,22 @@
 -- The definitions on small kits, by computation. B is the base 0xffffffff81000000.
-use Rattle.std.specs.Prelude.{ℕ, Bool, true, false, ◌+◌, ◌-◌, ◌%◌, ◌^◌, ◌≡◌, List, [], ◌∷◌, ◌++◌, Option, Some, None, Result, Ok, Err, refl, codes, negsuc, pos, map, flat_map}
+use Rattle.std.specs.Prelude.{ℕ, true, false, ◌+◌, ◌%◌, ◌^◌, ◌≡◌, List, [], ◌∷◌, Option, Some, None, Ok, Err, refl, codes, negsuc, pos, map, flat_map}
 use Rattle.kl_le.specs.Bytes.{num}
 use Rattle.kl_model.specs.Kept.{no_symbol}
 use Rattle.kl_model.specs.Names.{definition, visibility}
 use Rattle.kl_model.specs.Graphs.{graph, target, Removed, Undefined}
 use Rattle.kl_model.specs.Line.{line, slots, made_of, spreads, Spread}
 use Rattle.kl_model.specs.Laid.{span, reach}
-use Rattle.kl_model.specs.Memory.{mem, num_in, Cell}
+use Rattle.kl_model.specs.Memory.{mem, num_in}
 use Rattle.kl_model.specs.Reaches.{value, in_range, signed_4}
-use Rattle.kl_base.specs.declared.class.Class.TheVariants.{Text, Rodata, Rwdata, Bss}
-use Rattle.kl_model.specs.declared.object.Part.TheVariants.{Head, Drawn, Tail}
+use Rattle.kl_base.specs.declared.class.Class.TheVariants.{Text, Rodata, Rwdata}
+use Rattle.kl_model.specs.declared.object.Part.TheVariants.{Head, Drawn}
 use Rattle.kl_model.specs.declared.object.Input.{Input}
 use Rattle.kl_model.specs.declared.object.RawField.{RawField}
 use Rattle.kl_model.specs.declared.object.Section.{Section}
 use Rattle.kl_model.specs.declared.object.Symbol.{Symbol}
 use Rattle.kl_model.specs.declared.graph.PieceId.{PieceId}
 use Rattle.kl_model.specs.declared.graph.PieceId.TheVariants as id
-use Rattle.kl_model.specs.declared.graph.Target.TheVariants.{Place, Abs, Edge, Name, Zero, Gone}
+use Rattle.kl_model.specs.declared.graph.Target.TheVariants.{Place, Abs, Edge, Zero, Gone}
 use Rattle.kl_model.specs.declared.graph.Graph.{Graph}
 use Rattle.kl_model.specs.declared.place.Body.{Body}
 use Rattle.kl_model.specs.declared.place.Body.TheVariants as body

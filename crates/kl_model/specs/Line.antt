@@ -1,5 +1,5 @@
 -- What stands in a class, in order.
-use Rattle.std.specs.Prelude.{ℕ, ◌+◌, ◌*◌, Bool, true, false, cond, not, ◌&&◌, ◌||◌, ◌==◌, List, [], ◌∷◌, ◌++◌, map, flat_map, length, slice_index, Option, Some, None}
+use Rattle.std.specs.Prelude.{ℕ, ◌+◌, ◌*◌, Bool, true, false, not, ◌&&◌, ◌||◌, ◌==◌, List, [], ◌∷◌, ◌++◌, flat_map, length, slice_index, Option, Some, None}
 use Rattle.std.specs.List.{list_any}
 use Rattle.kl_model.specs.Lists.{each, only_if}
 use Rattle.kl_model.specs.Kept.{same_class, part_number, class_number}

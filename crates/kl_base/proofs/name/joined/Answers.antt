@@ -1,5 +1,3 @@
-use Rattle.std.proofs.Common.{◌≡◌, ◌∙◌, ap, length, ◌+◌, ◌-◌}
-use borrow.Rule.Slice.PartMut.{put_mid}
 use Rattle.kl_base.proofs.Kept.{put_behind}
 use Rattle.kl_base.proofs.name.joined.Goals as goal
 

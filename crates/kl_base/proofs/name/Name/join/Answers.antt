@@ -1,7 +1,5 @@
-use Rattle.std.proofs.Common.{◌≡◌, ◌≤◌, ◌∙◌, ap, sym, refl, length, ◌+◌, ◌-◌, ◌++◌, take, arith, length-append}
-use Rattle.std.specs.Prelude.{replicate}
+use Rattle.std.proofs.Common.{◌≤◌, ◌∙◌, ap, sym, refl, length, ◌+◌, ◌++◌, take, length-append}
 use Rattle.std.proofs.lemmas.List.{take_at, append_assoc}
-use Rattle.kl_base.specs.Names.{name_fault}
 use Rattle.kl_base.proofs.Joined.{name_fault-append}
 use Rattle.kl_base.proofs.Kept.{padded-name}
 use Rattle.kl_base.proofs.name.Name.join.Goals as goal
