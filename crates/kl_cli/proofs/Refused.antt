@@ -1,6 +1,6 @@
 -- Which files are not refused, and what is read of them.
-use Rattle.std.proofs.Common.{◌≡◌, ℕ, ◌+◌, ◌≤◌, ◌<◌, Bool, true, false, List, [], ◌∷◌, ◌++◌, length, get_or, refl, sym, ap, ◌∙◌, arith, Option}
-use Rattle.std.specs.Prelude.{Some, None, codes, unwrap_or, is_some}
+use Rattle.std.proofs.Common.{◌≡◌, ℕ, ◌≤◌, ◌<◌, Bool, true, false, List, [], ◌∷◌, length, get_or, refl, sym, ap, ◌∙◌, arith, Option}
+use Rattle.std.specs.Prelude.{Some, None, codes, is_some}
 use Rattle.kl_model.specs.declared.object.Input.{Input}
 use Rattle.std.specs.FinMap.{get}
 use Rattle.std.specs.Str.{bytes_eq}

@@ -1,9 +1,9 @@
 -- What is written.
-use Rattle.std.proofs.Common.{◌≡◌, ◌≢◌, ℕ, ◌≤◌, List, [], ◌++◌, length, take, refl, sym, ap, ◌∙◌, arith, Option, inl, inr}
+use Rattle.std.proofs.Common.{◌≡◌, ◌≢◌, ℕ, ◌≤◌, List, [], ◌++◌, length, refl, sym, ap, arith, Option, inl, inr}
 use Rattle.std.specs.Prelude.{Some, None, Result, Ok, Err}
 use Rattle.std.specs.Option.{option_map}
 use Rattle.std.proofs.lemmas.List.{take_all, append-nil}
-use Rattle.kl_store.specs.Outside.{Taken, Takes, Writes}
+use Rattle.kl_store.specs.Outside.{Taken, Writes}
 use Rattle.kl_store.specs.Calls.{HasCause}
 use Rattle.kl_cli.specs.Answers.{Says, said, usage_line}
 use Rattle.kl_cli.specs.declared.exit.Cause.{Cause}

@@ -1,15 +1,13 @@
 -- What writing files leaves.
-use Rattle.std.proofs.Common.{◌≡◌, ◌≢◌, ℕ, ◌+◌, ◌-◌, ◌<◌, ◌≤◌, Bool, true, false, List, [], ◌∷◌, ◌++◌, length, take, drop, refl, sym, ap, ◌∙◌, arith, rules, append_assoc, Option, length-append}
+use Rattle.std.proofs.Common.{◌≡◌, ◌≢◌, ℕ, ◌-◌, true, false, List, [], ◌∷◌, ◌++◌, length, refl, sym, ap, ◌∙◌, arith, rules, append_assoc, Option, length-append}
 use Rattle.std.specs.Prelude.{Some, None, Result, Ok, Err, OnOk, codes, is_some, unwrap_or, nat_eq}
-use Rattle.std.specs.Option.{ForSome, option_map}
-use Rattle.std.specs.FinMap.{get, insert}
+use Rattle.std.specs.Option.{option_map}
+use Rattle.std.specs.FinMap.{get}
 use Rattle.std.specs.Cmp.Lexicographic.{pointwise}
-use Rattle.std.specs.List.{ends_with}
 use Rattle.std.proofs.lemmas.List.{drop_at}
 use Rattle.kl_store.specs.Names.{Names, Create, Append, carried_out, same_name, is_scratch}
 use Rattle.kl_store.specs.Meaning.{Meaning}
-use Rattle.kl_store.specs.Calls.{Makes, Does, IsSettled}
-use Rattle.kl_store.specs.Files.{SameFiles}
+use Rattle.kl_store.specs.Calls.{Makes, IsSettled}
 use Rattle.kl_store.proofs.NameMaps.{same_refl, same_apart, get-created, get-appended}
 use Rattle.kl_store.proofs.Branches.{cond_true, cond_false}
 use Rattle.kl_store.proofs.Moments.{told_made}

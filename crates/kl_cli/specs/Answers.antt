@@ -1,6 +1,6 @@
 -- What a command answers: each cause with its status, and the first refusal that stands in the words and the files.
-use Rattle.std.specs.Prelude.{ℕ, ◌≡◌, ◌≤◌, ◌⊎◌, Bool, take, cond, nat_lt, List, [], ◌∷◌, ◌++◌, length, codes, map, Option, Some, None, unwrap_or}
-use Rattle.std.specs.Option.{ForSome, option_map, option_or}
+use Rattle.std.specs.Prelude.{ℕ, ◌≡◌, ◌≤◌, ◌⊎◌, take, cond, nat_lt, List, [], ◌∷◌, ◌++◌, length, codes, map, Option, Some, None, unwrap_or}
+use Rattle.std.specs.Option.{ForSome, option_or}
 use Rattle.std.specs.FinMap.{get}
 use Rattle.kl_store.specs.Names.{Names}
 use Rattle.kl_store.specs.Meaning.{Meaning}
@@ -15,7 +15,6 @@ use Rattle.kl_cli.specs.declared.command.Command.{Command}
 use Rattle.kl_cli.specs.declared.command.Command.TheVariants.{Link}
 use Rattle.kl_cli.specs.declared.exit.Cause.{Cause}
 use Rattle.kl_cli.specs.declared.exit.Cause.TheVariants.{Done, Usage, NoMemory, Store, Kit, NotYet}
-use Rattle.kl_cli.specs.declared.exit.KitCause.{KitCause}
 use Rattle.kl_cli.specs.declared.exit.KitCause.TheVariants.{Absent, TooLong}
 
 -- the status of each cause

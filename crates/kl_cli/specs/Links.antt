@@ -1,5 +1,5 @@
 -- What a link leaves.
-use Rattle.std.specs.Prelude.{ℕ, ◌≡◌, true, List, [], ◌∷◌, ◌++◌, codes, replicate, Option, Some, None}
+use Rattle.std.specs.Prelude.{ℕ, ◌≡◌, true, List, [], ◌∷◌, replicate, Option, Some, None}
 use Rattle.std.specs.Option.{ForSome}
 use Rattle.kl_store.specs.Names.{Names}
 use Rattle.kl_store.specs.Meaning.{Meaning}

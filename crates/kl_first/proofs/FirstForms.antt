@@ -1,22 +1,20 @@
 -- A kit text of four lines and an object of one text section have the form that is linked.
-use Rattle.std.proofs.Common.{◌≡◌, ℕ, ◌+◌, ◌-◌, ◌*◌, ◌/◌, ◌%◌, ◌≤◌, ◌<◌, ◌^◌, Bool, true, false, not, ◌&&◌, nat_eq, List, [], ◌∷◌, length, take, drop, refl, sym, ap, ◌∙◌, arith, rules, length-take}
-use Rattle.std.specs.Prelude.{Some, None, codes, ◌==◌, ◌||◌, nat_le}
+use Rattle.std.proofs.Common.{◌≡◌, ℕ, ◌+◌, ◌*◌, ◌/◌, ◌%◌, ◌≤◌, ◌<◌, ◌^◌, Bool, true, false, not, ◌&&◌, List, [], ◌∷◌, length, take, drop, refl, sym, ap, ◌∙◌, arith}
+use Rattle.std.specs.Prelude.{Some, codes, ◌==◌, ◌||◌, nat_le}
 use Rattle.std.specs.Str.{bytes_eq}
 use Rattle.std.specs.List.{position_or_len}
 use Rattle.std.proofs.lemmas.Bool.{eqb-true, leb-true, eqb-false}
 use Rattle.std.proofs.lemmas.List.{length-take-le}
 use Rattle.std.proofs.lemmas.List.Sums.{prefix_len-le-length}
 use Rattle.kl_le.specs.Bytes.{text}
-use Rattle.kl_elf.specs.Records.{sym_at}
 use Rattle.kl_elf.specs.declared.records.Shdr.{Shdr}
 use Rattle.kl_elf.specs.declared.records.Sym.{Sym}
 use Rattle.kl_model.specs.Texts.{text_at}
-use Rattle.kl_model.specs.First.{FirstForm, IsText, IsInText}
-use Rattle.kl_model.specs.declared.object.Input.{Input}
+use Rattle.kl_model.specs.First.{FirstForm}
 use Rattle.kl_first.specs.KitText.{kit_of}
-use Rattle.kl_first.specs.ObjectFile.{is_zero, are_sections, are_named, do_define, is_first_object, section_header, entry_symbol, is_entry, is_null_symbol, ends_in, is_text_header, is_symbol_table, is_string_table, string_in, section_of, symbol_of, input_of}
+use Rattle.kl_first.specs.ObjectFile.{is_first_object, section_header, entry_symbol, is_entry, is_null_symbol, ends_in, is_text_header, is_symbol_table, is_string_table, string_in, section_of, symbol_of, input_of}
 use Rattle.kl_first.proofs.KitTexts.{and_left, and_right, equal_bytes}
-use Rattle.kl_first.proofs.ObjectFiles.{first-parts, lie_of, Parts, Lie}
+use Rattle.kl_first.proofs.ObjectFiles.{first-parts, lie_of}
 
 -- the text at the place of a string is the string
 text_at-string_in : (b : List ℕ) (table : Shdr) (place : ℕ) → text_at b (string_in b table place) ≡ text b (table.offset + place)

@@ -1,5 +1,5 @@
 -- What is found in a kit text is what makes it one.
-use Rattle.std.proofs.Common.{◌≡◌, ℕ, zero, suc, ◌+◌, ◌≤◌, ◌<◌, Bool, true, false, not, cond, ◌&&◌, nat_eq, List, [], ◌∷◌, ◌++◌, length, take, drop, refl, sym, ap, ◌∙◌, arith, rules, append_assoc, Option, length-append}
+use Rattle.std.proofs.Common.{◌≡◌, ℕ, suc, ◌+◌, ◌≤◌, Bool, true, false, not, cond, ◌&&◌, List, [], ◌∷◌, ◌++◌, length, take, drop, refl, sym, ap, ◌∙◌, arith, rules, append_assoc, Option}
 use Rattle.std.specs.Prelude.{Some, None, codes, ◌==◌, nat_le, is_none}
 use Rattle.std.specs.Option.{option_map, option_and_then}
 use Rattle.std.specs.Str.{bytes_eq}
@@ -9,7 +9,7 @@ use Rattle.std.proofs.lemmas.Slice.Eq.{bytes_eq-Decides}
 use Rattle.std.proofs.lemmas.Bool.{eqb-true, leb-true, ne_eqb}
 use Rattle.kl_base.specs.Names.{is_path_byte, name_fault}
 use Rattle.kl_base.proofs.Joined.{sound-none}
-use Rattle.kl_first.specs.KitText.{IsFirstKit, line, text_of, opening, after_prefix, first_line, is_newline, words_of, head_of, first_kit, is_symbol, is_file}
+use Rattle.kl_first.specs.KitText.{IsFirstKit, opening, after_prefix, first_line, is_newline, words_of, head_of, first_kit, is_symbol, is_file}
 
 pub same_bytes : (t : List ℕ) → bytes_eq t t ≡ true
 same_bytes t = search (rules, bytes_eq-Decides)

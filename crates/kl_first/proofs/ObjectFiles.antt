@@ -1,22 +1,16 @@
 -- What the test of an object says of its sections, and that the input has the form that is linked.
-use Rattle.std.proofs.Common.{◌≡◌, ℕ, ◌+◌, ◌-◌, ◌*◌, ◌/◌, ◌%◌, ◌≤◌, ◌<◌, ◌^◌, Bool, true, false, not, cond, ◌&&◌, nat_eq, nat_lt, List, [], ◌∷◌, ◌++◌, length, take, drop, min, refl, sym, ap, ◌∙◌, arith, rules, Option, length-take, length-drop}
-use Rattle.std.specs.Prelude.{Some, None, codes, ◌==◌, ◌||◌, nat_le, unwrap_or}
+use Rattle.std.proofs.Common.{◌≡◌, ℕ, ◌+◌, ◌/◌, ◌%◌, ◌≤◌, Bool, true, false, not, cond, ◌&&◌, nat_lt, List, length, refl, sym, ap, ◌∙◌, arith}
+use Rattle.std.specs.Prelude.{Some, None, ◌==◌, ◌||◌, nat_le, unwrap_or}
 use Rattle.std.specs.Str.{bytes_eq}
 use Rattle.std.specs.List.{position_from, position_or_len}
-use Rattle.std.proofs.lemmas.Bool.{eqb-true, leb-true, eqb-false, ltb-false}
-use Rattle.std.proofs.lemmas.List.{take_all}
+use Rattle.std.proofs.lemmas.Bool.{eqb-true, leb-true, ltb-false}
 use Rattle.std.proofs.lemmas.List.Sums.{prefix_len-le-length}
 use Rattle.std.proofs.lemmas.Iterator.Adapters.{position_from-zero}
-use Rattle.kl_base.specs.declared.class.Range.{Range}
 use Rattle.kl_le.specs.Bytes.{text}
 use Rattle.kl_elf.specs.Records.{sym_at}
 use Rattle.kl_elf.specs.declared.records.Shdr.{Shdr}
-use Rattle.kl_elf.specs.declared.records.Sym.{Sym}
-use Rattle.kl_model.specs.Texts.{text_at}
-use Rattle.kl_model.specs.First.{FirstForm, IsText, IsInText}
-use Rattle.kl_first.specs.KitText.{kit_of}
-use Rattle.kl_first.specs.ObjectFile.{is_zero, has_sections, are_first, are_sections, do_lie_in, are_named, do_define, is_first_object, section_header, entry_symbol, is_entry, is_null_symbol, lies_in, ends_in, is_text_header, is_symbol_table, is_string_table, string_in, input_of}
-use Rattle.kl_first.proofs.KitTexts.{and_left, and_right, equal_bytes}
+use Rattle.kl_first.specs.ObjectFile.{has_sections, are_first, are_sections, do_lie_in, are_named, do_define, is_first_object, section_header, is_entry, is_null_symbol, lies_in, ends_in, is_text_header, is_symbol_table, is_string_table}
+use Rattle.kl_first.proofs.KitTexts.{and_left, and_right}
 
 pub position_or_len-unwrap_or : (p : ℕ → Bool) (xs : List ℕ) → unwrap_or (position_from p 0 xs) (length xs) ≡ position_or_len p xs
 position_or_len-unwrap_or p xs =

@@ -1,10 +1,6 @@
-use Rattle.std.proofs.Common.{◌≡◌, ◌∙◌, ◌≤◌, ◌∷◌, ◌++◌, [], Bool, true, List, ℕ, sym, ap, refl, arith, length, Option}
-use Rattle.std.specs.Prelude.{Some, codes, is_some}
+use Rattle.std.proofs.Common.{◌≡◌}
 use Rattle.kl_store.proofs.Moments.{told_stays}
-use Rattle.kl_model.specs.First.{FirstForm}
-use Rattle.kl_model.specs.declared.object.Input.{Input}
-use Rattle.kl_first.specs.KitText.{first_kit}
-use Rattle.kl_first.specs.ObjectFile.{input_of, is_first_object}
+use Rattle.kl_first.specs.ObjectFile.{input_of}
 use Rattle.kl_first.proofs.KitTexts.{is_file-name, first_kit-found}
 use Rattle.kl_first.proofs.FirstForms.{first-form}
 use Rattle.kl_cli.proofs.Refused.{link_refusal-none, read_object}

@@ -1,4 +1,3 @@
-use Rattle.std.proofs.Common.{◌≡◌}
 use Rattle.kl_store.proofs.SameFilesLemmas.{same_files_trans, settles_files}
 use Rattle.kl_cli.proofs.Written.{on_ok, pair_put, image_scratch, map_scratch}
 use Rattle.kl_cli.proofs.link.write_pair.Goals as goal

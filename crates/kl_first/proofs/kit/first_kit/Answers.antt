@@ -1,4 +1,4 @@
-use Rattle.std.proofs.Common.{◌≡◌, ◌∙◌, sym, refl, ap, ℕ, List, Option}
+use Rattle.std.proofs.Common.{◌≡◌, sym, ℕ, List, Option}
 use Rattle.std.specs.Prelude.{Some, None, IfSome, IfNone}
 use Rattle.std.specs.Option.{option_map}
 use Rattle.kl_first.specs.KitText.{IsFirstKit, first_kit}

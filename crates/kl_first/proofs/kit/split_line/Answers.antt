@@ -1,6 +1,5 @@
-use Rattle.std.proofs.Common.{◌≡◌, ◌∙◌, ◌+◌, ◌-◌, sym, refl, ap, take, drop, length, arith, length-drop}
+use Rattle.std.proofs.Common.{◌≡◌, ◌∙◌, ◌+◌, ◌-◌, sym, drop, length, arith, length-drop}
 use Rattle.std.proofs.lemmas.List.{take_all}
-use Rattle.kl_first.specs.KitText.{first_line}
 use Rattle.kl_first.proofs.KitTexts.{first_line-none, first_line-some}
 use Rattle.kl_first.proofs.kit.split_line.Goals as goal
 

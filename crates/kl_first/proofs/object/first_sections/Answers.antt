@@ -1,5 +1,5 @@
-use Rattle.std.proofs.Common.{◌≡◌, ◌∙◌, refl, ap, Bool, true, false, ◌&&◌}
-use Rattle.kl_first.specs.ObjectFile.{is_first_object, has_sections, are_first}
+use Rattle.std.proofs.Common.{refl}
+use Rattle.kl_first.specs.ObjectFile.{is_first_object}
 use Rattle.kl_first.proofs.object.first_sections.Goals as goal
 
 pub returns-in_err-sections : goal.returns-in_err-sections

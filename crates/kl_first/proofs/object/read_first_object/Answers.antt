@@ -1,4 +1,4 @@
-use Rattle.std.proofs.Common.{◌≡◌, ◌∙◌, ◌+◌, ◌≤◌, sym, ap, arith, length}
+use Rattle.std.proofs.Common.{◌≡◌, ◌∙◌, sym, arith}
 use Rattle.kl_first.specs.ObjectFile.{section_header}
 use Rattle.kl_first.proofs.ObjectFiles.{first-parts, lie_of, symbols_size, entry_ends}
 use Rattle.kl_first.proofs.object.read_first_object.Goals as goal

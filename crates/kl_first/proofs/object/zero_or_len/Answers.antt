@@ -1,4 +1,3 @@
-use Rattle.std.proofs.Common.{◌≡◌, ◌∙◌, sym}
 use Rattle.kl_first.specs.ObjectFile.{is_zero}
 use Rattle.kl_first.proofs.ObjectFiles.{position_or_len-unwrap_or}
 use Rattle.kl_first.proofs.object.zero_or_len.Goals as goal
