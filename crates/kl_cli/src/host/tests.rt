@@ -10,14 +10,14 @@ fn named(bytes: &[u8]) -> Result<Name, Fail> {
 
 // The folder of the test and what a broken run may have left in it are removed.
 fn cleared(rt: &HostRuntime) {
-    let _ = fs::remove_dir_all(rt, "kl_host_test");
+    let _ = fs::remove_dir_all(rt, "relink_host_test");
 }
 
 #[test]
 fn keeps_files(rt: HostRuntime) -> Result<(), Fail> {
     cleared(&rt);
-    let a = named(b"/kl_host_test/a/one")?;
-    let b = named(b"/kl_host_test/b/c/two")?;
+    let a = named(b"/relink_host_test/a/one")?;
+    let b = named(b"/relink_host_test/b/c/two")?;
     let mut store = HostStore::new(&rt, rt.alloc());
     assert_eq!(rt; (store.size(&a)?, store.remove(&a)?), (None, false));
     store.settle()?;
@@ -25,7 +25,7 @@ fn keeps_files(rt: HostRuntime) -> Result<(), Fail> {
     store.append(&a, b" two")?;
     store.settle()?;
     assert_eq!(rt;
-        fs::read(&rt, "kl_host_test/a/one")?.as_slice(),
+        fs::read(&rt, "relink_host_test/a/one")?.as_slice(),
         b"one two".as_slice()
     );
     let mut buf = [b'.'; 6];
@@ -44,11 +44,11 @@ fn keeps_files(rt: HostRuntime) -> Result<(), Fail> {
     assert_eq!(rt; (store.size(&a)?, store.size(&b)?), (Some(0), Some(0)));
     assert_eq!(rt; store.remove(&b)?, true);
     assert!(rt;
-        store.size(&named(b"/kl_host_test/a/one/x")?).is_err(),
+        store.size(&named(b"/relink_host_test/a/one/x")?).is_err(),
         "a file as a folder"
     );
     assert!(rt;
-        store.create(&named(b"/kl_host_test/a")?).is_err(),
+        store.create(&named(b"/relink_host_test/a")?).is_err(),
         "a folder as a file"
     );
     cleared(&rt);
