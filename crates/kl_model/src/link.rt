@@ -5,6 +5,7 @@ ghost use Rattle.kl_model.specs.declared.link.LinkFault.TheVariants as fault;
 use crate::graph::FieldAt;
 use crate::place::Placement;
 use kl_base::Bytes;
+use std::alloc::{AllocError, AllocFailed};
 
 /// The bytes of a symbol's name.
 pub type NameText = Bytes;
@@ -75,6 +76,22 @@ impl From<kl_base::NoMemory> for LinkFault {
     ghost from_gives = { λ _ e. e ≡ fault.NoMemory };
 
     fn from(_: kl_base::NoMemory) -> Self {
+        LinkFault::NoMemory
+    }
+}
+
+impl<T: Drop> From<AllocFailed<T>> for LinkFault {
+    ghost from_gives = { λ _ e. e ≡ fault.NoMemory };
+
+    fn from(_: AllocFailed<T>) -> Self {
+        LinkFault::NoMemory
+    }
+}
+
+impl From<AllocError> for LinkFault {
+    ghost from_gives = { λ _ e. e ≡ fault.NoMemory };
+
+    fn from(_: AllocError) -> Self {
         LinkFault::NoMemory
     }
 }
