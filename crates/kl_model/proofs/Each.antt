@@ -1,10 +1,11 @@
 -- Lists that are made item by item.
-use Rattle.std.proofs.Common.{ℕ, zero, suc, ◌≡◌, ◌+◌, ◌<◌, ◌≤◌, ◌∙◌, List, [], ◌∷◌, ◌++◌, length, get_or, take, drop, refl, ap, sym, arith, append_assoc, length-append, Bool}
-use Rattle.std.proofs.lemmas.List.{take_more, length-take-le, take_all, append-nil}
-use Rattle.std.specs.Prelude.{slice_get, Some, filter, sum_by}
-use Rattle.std.proofs.lemmas.List.Elements.{filter-append}
+use Rattle.std.proofs.Common.{ℕ, zero, suc, ◌≡◌, ◌+◌, ◌<◌, ◌≤◌, ◌∙◌, List, [], ◌∷◌, ◌++◌, length, get_or, take, drop, refl, ap, sym, arith, append_assoc, length-append, Bool, true, false, ◌-◌, inl, inr}
+use Rattle.std.proofs.lemmas.Bool.{cases_lt}
+use Rattle.std.proofs.lemmas.List.{take_more, length-take-le, take_all, append-nil, get_or_append_left, get_or-append-add}
+use Rattle.std.specs.Prelude.{slice_get, Some, filter, sum_by, All, AllPairs}
+use Rattle.std.proofs.lemmas.List.Elements.{filter-append, All-append}
 use Rattle.std.proofs.lemmas.List.Sums.{sum_by-cons}
-use Rattle.kl_model.specs.Lists.{each_from, each}
+use Rattle.kl_model.specs.Lists.{each_from, each, only_if}
 
 -- one item more
 pub each_push : {X Y : Type 0} (n : ℕ) (f : ℕ → X → List Y) (xs : List X) (x : X) → each_from n f (xs ++ x ∷ []) ≡ each_from n f xs ++ f (n + length xs) x
@@ -95,3 +96,62 @@ each_first n f (x ∷ xs) (suc i) d e h none first =
     let nothing = none_left (f n x) (each_from (suc n) f (take i xs)) none in
     let rest = none_right (f n x) (each_from (suc n) f (take i xs)) none in
     rw nothing (each_first (suc n) f xs i d e (omega arith) rest (rw z at first))
+
+-- what holds of all that is given, and of pairs of it
+pub each-all : {X Y : Type 0} (P : Y → Type 0) (n : ℕ) (f : ℕ → X → List Y) (xs : List X)
+    → ((k : ℕ) (d : X) → k < length xs → All P (f (n + k) (get_or xs k d))) → All P (each_from n f xs)
+each-all P n f [] h = λ k d l. absurd (omega arith)
+each-all P n f (x ∷ xs) h =
+    let e : n + zero ≡ n = omega arith in
+    All-append P (f n x) (each_from (suc n) f xs) (rw e at (h 0 x (omega arith)))
+      (each-all P (suc n) f xs (λ k d l. let next : suc n + k ≡ n + suc k = omega arith in rw next (h (suc k) d (omega arith))))
+
+pub pairs-append : {X : Type 0} (R : X → X → Type 0) (xs ys : List X) → AllPairs R xs → AllPairs R ys → All (λ x. All (R x) ys) xs → AllPairs R (xs ++ ys)
+pairs-append R xs ys left right cross i j d h l =
+    let long = length-append xs ys in
+    elim (cases_lt j (length xs)) [
+      inl a ↦
+        let first : i < length xs = omega arith in
+        rw (get_or_append_left xs ys d i first, get_or_append_left xs ys d j a) (left i j d h a)
+    | inr a ↦
+        let there : length xs + (j - length xs) ≡ j = omega arith in
+        let later : get_or (xs ++ ys) j d ≡ get_or ys (j - length xs) d = rw there at (get_or-append-add xs ys (j - length xs) d) in
+        elim (cases_lt i (length xs)) [
+          inl b ↦ rw (get_or_append_left xs ys d i b, later) (cross i d b (j - length xs) d (omega arith))
+        | inr b ↦
+            let here : length xs + (i - length xs) ≡ i = omega arith in
+            let earlier : get_or (xs ++ ys) i d ≡ get_or ys (i - length xs) d = rw here at (get_or-append-add xs ys (i - length xs) d) in
+            rw (earlier, later) (right (i - length xs) (j - length xs) d (omega arith) (omega arith)) ] ]
+
+pub each-pairs : {X Y : Type 0} (R : Y → Y → Type 0) (n : ℕ) (f : ℕ → X → List Y) (xs : List X)
+    → ((k : ℕ) (d : X) → k < length xs → AllPairs R (f (n + k) (get_or xs k d)))
+    → ((k j : ℕ) (d : X) → k < j → j < length xs → All (λ y. All (R y) (f (n + j) (get_or xs j d))) (f (n + k) (get_or xs k d)))
+    → AllPairs R (each_from n f xs)
+each-pairs R n f [] one two = λ i j d h l. absurd (omega arith)
+each-pairs R n f (x ∷ xs) one two =
+    let e : n + zero ≡ n = omega arith in
+    pairs-append R (f n x) (each_from (suc n) f xs) (rw e at (one 0 x (omega arith)))
+      (each-pairs R (suc n) f xs
+        (λ k d l. let next : suc n + k ≡ n + suc k = omega arith in rw next (one (suc k) d (omega arith)))
+        (λ k j d h l. let next : suc n + k ≡ n + suc k = omega arith in let last : suc n + j ≡ n + suc j = omega arith in rw (next, last) (two (suc k) (suc j) d (omega arith) (omega arith))))
+      (λ i d l. each-all (R (get_or (f n x) i d)) (suc n) f xs
+        (λ k c h.
+          let next : suc n + k ≡ n + suc k = omega arith in
+          let crossed = rw e at (two 0 (suc k) c (omega arith) (omega arith)) in
+          rw next (crossed i d l)))
+
+pub all-only_if : {X : Type 0} (P : X → Type 0) (b : Bool) (x : X) → (b ≡ true → P x) → All P (only_if b x)
+all-only_if P true x h zero d l = h refl
+all-only_if P true x h (suc k) d l = absurd (omega arith)
+all-only_if P false x h k d l = absurd (omega arith)
+
+pub pairs-only_if : {X : Type 0} (R : X → X → Type 0) (b : Bool) (x : X) → AllPairs R (only_if b x)
+pairs-only_if R true x i j d h l = absurd (omega arith)
+pairs-only_if R false x i j d h l = absurd (omega arith)
+
+-- where nothing is given no item gives anything
+pub each-empty : {X Y : Type 0} (n : ℕ) (f : ℕ → X → List Y) (xs : List X) → each_from n f xs ≡ [] → (k : ℕ) (d : X) → k < length xs → f (n + k) (get_or xs k d) ≡ []
+each-empty n f [] e k d h = absurd (omega arith)
+each-empty n f (x ∷ xs) e zero d h = let z : n + zero ≡ n = omega arith in rw z (none_left (f n x) (each_from (suc n) f xs) e)
+each-empty n f (x ∷ xs) e (suc k) d h =
+    let next : n + suc k ≡ suc n + k = omega arith in rw next (each-empty (suc n) f xs (none_right (f n x) (each_from (suc n) f xs) e) k d (omega arith))

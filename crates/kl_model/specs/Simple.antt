@@ -1,9 +1,11 @@
 -- The kits that are linked so far: kernels of text sections, whose names are GLOBAL.
-use Rattle.std.specs.Prelude.{ℕ, ◌^◌, ◌≡◌, ◌<◌, ◌≤◌, Bool, true, false, not, ◌&&◌, ◌||◌, ◌==◌, bit_and, is_none, List, [], ◌∷◌, length, All}
+use Rattle.std.specs.Prelude.{ℕ, ◌^◌, ◌⊎◌, AllPairs, IfSome, ◌+◌, ◌≡◌, ◌<◌, ◌≤◌, Bool, true, false, not, ◌&&◌, ◌||◌, ◌==◌, bit_and, is_none, List, [], ◌∷◌, length, All}
 use Rattle.std.specs.List.{list_all, list_any}
 use Rattle.kl_base.specs.declared.class.Class.TheVariants.{Text}
 use Rattle.kl_model.specs.Texts.{text_at, has}
-use Rattle.kl_model.specs.Kept.{named_area}
+use Rattle.kl_model.specs.Kept.{named_area, input_at}
+use Rattle.kl_model.specs.Reaches.{width}
+use Rattle.kl_model.specs.Carries.{piece_at}
 use Rattle.kl_model.specs.Line.{classes}
 use Rattle.kl_model.specs.Fit.{section_in, size_limit}
 use Rattle.kl_model.specs.Faults.{is_kind}
@@ -17,6 +19,9 @@ use Rattle.kl_model.specs.declared.kit.KitKind.TheVariants.{Kernel, Library}
 use Rattle.kl_model.specs.declared.kit.Kit.{Kit}
 use Rattle.kl_model.specs.declared.graph.PieceId.TheVariants as id
 use Rattle.kl_model.specs.declared.graph.Piece.{Piece}
+use Rattle.kl_model.specs.declared.graph.Field.{Field}
+use Rattle.kl_model.specs.declared.graph.Target.{Target}
+use Rattle.kl_model.specs.declared.graph.Target.TheVariants.{Place, Abs, Edge, Name, Zero, Gone}
 use Rattle.kl_model.specs.declared.graph.Graph.{Graph}
 
 abbrev pub is_empty : {X : Type 0} → List X → Bool
@@ -75,3 +80,40 @@ pub record IsSimpleGraph (kit : Kit) (g : Graph) : Type 0 where
   pub pieces : All (IsSimplePiece (length g.parts)) g.pieces
   pub count : length g.pieces < 2 ^ 23
   pub inputs : length g.parts ≤ 16384
+
+-- A piece with all of its bytes in the file of its input.
+pub record IsSourced (inputs : List Input) (x : Piece) : Type 0 where
+  pub input : ℕ
+  pub section : ℕ
+  pub from : x.id ≡ id.Section input section
+  pub known : input < length inputs
+  pub bytes : x.bytes.at + x.bytes.len ≤ length (input_at inputs input).bytes
+  pub whole : x.bytes.len ≡ x.size
+
+-- A place in a piece, a number, or an undefined name.
+abbrev pub IsSimpleTarget : Graph → Target → Type 0
+IsSimpleTarget g (Place n k) = n < length g.pieces
+IsSimpleTarget g (Abs n) = Unit {0}
+IsSimpleTarget g (Edge n e) = ⊥
+IsSimpleTarget g (Name n) = ⊥
+IsSimpleTarget g Zero = Unit {0}
+IsSimpleTarget g Gone = ⊥
+
+-- A field of the type 64, PC32 or PLT32 in the bytes of a piece.
+pub record IsSimpleField (g : Graph) (f : Field) : Type 0 where
+  pub kind : (f.kind ≡ 1) ⊎ ((f.kind ≡ 2) ⊎ (f.kind ≡ 4))
+  pub piece : f.piece < length g.pieces
+  pub inside : f.offset + width f.kind ≤ (piece_at g f.piece).size
+  pub target : IsSimpleTarget g f.target
+
+-- two fields of one piece share no byte
+abbrev pub StandApart : Field → Field → Type 0
+StandApart f h = f.piece ≡ h.piece → (f.offset + width f.kind ≤ h.offset) ⊎ (h.offset + width h.kind ≤ f.offset)
+
+-- The graph of such a kit, as far as it is written.
+pub record IsWritable (inputs : List Input) (g : Graph) : Type 0 where
+  pub pieces : All (IsSourced inputs) g.pieces
+  pub fields : All (IsSimpleField g) g.fields
+  pub apart : AllPairs StandApart g.fields
+  pub count : length g.fields ≤ 2 ^ 23
+  pub entry : IfSome g.entry (IsSimpleTarget g)

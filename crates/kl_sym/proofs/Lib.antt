@@ -7,3 +7,5 @@ pub mod IndexSteps
 pub mod SimpleNames
 pub mod FieldTargets
 pub mod ResolveFaults
+pub mod SoundGraph
+pub mod SoundFields

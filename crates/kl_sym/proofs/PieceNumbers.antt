@@ -28,9 +28,13 @@ length-only_if : {X Y : Type 0} (b : Bool) (x : X) (y : Y) → length (only_if b
 length-only_if true x y = refl
 length-only_if false x y = refl
 
-only_if-le : {X : Type 0} (b : Bool) (x : X) → length (only_if b x) ≤ 1
+pub only_if-le : {X : Type 0} (b : Bool) (x : X) → length (only_if b x) ≤ 1
 only_if-le true x = omega arith
 only_if-le false x = omega arith
+
+pub sum_by-ones : (ys : List Section) → sum_by (λ y. 1) ys ≡ length ys
+sum_by-ones [] = refl
+sum_by-ones (y ∷ ys) = omega (arith, sum_by-cons (λ y. 1) y ys, sum_by-ones ys)
 
 -- the test of one section
 abbrev is_it : ℕ → ℕ → ℕ × ℕ → Bool
@@ -120,7 +124,3 @@ module _ (kit : Kit) (inputs : List Input) where
       (λ j x. omega (arith, length-each-le 1 (section_piece kit inputs j x) (λ y. 1) x.object.sections (λ s y. only_if-le (is_kept kit inputs j s) (piece_of kit j x s y)), sum_by-ones x.object.sections)) in
       let few = length-each-le 1 (section_piece kit inputs i x) (λ y. 1) (take k x.object.sections) (λ s y. only_if-le (is_kept kit inputs i s) (piece_of kit i x s y)) in
       omega (arith, many, few, sum_by-ones (take k x.object.sections), length-take k x.object.sections, sum_by_more_le (λ x. length x.object.sections) inputs i no_input h)
-    where
-      sum_by-ones : (ys : List Section) → sum_by (λ y. 1) ys ≡ length ys
-      sum_by-ones [] = refl
-      sum_by-ones (y ∷ ys) = omega (arith, sum_by-cons (λ y. 1) y ys, sum_by-ones ys)

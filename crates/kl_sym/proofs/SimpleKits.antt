@@ -1,6 +1,7 @@
 -- What holds of the sections and symbols of a simple kit.
 use Rattle.std.proofs.Common.{ℕ, suc, ◌≡◌, ◌<◌, List, [], ◌∷◌, length, get_or, refl, ap, arith, Bool, true, false, not, ◌&&◌, ◌||◌, inl, inr, Option}
-use Rattle.std.specs.Prelude.{Some, None, ◌==◌, bit_and, is_none}
+use Rattle.std.specs.Prelude.{codes, cond, Some, None, ◌==◌, bit_and, is_none}
+use Rattle.std.specs.Str.{bytes_eq}
 use Rattle.std.specs.List.{list_any, list_all}
 use Rattle.std.proofs.lemmas.Bool.{cases_Bool}
 use Rattle.std.proofs.lemmas.List.Folds.{list_all_at}
@@ -119,11 +120,11 @@ none_is : (o : Option ℕ) → is_none o ≡ true → o ≡ None
 none_is None e = refl
 none_is (Some n) e = cc
 
-unnamed : (b : List ℕ) (name : List ℕ) (c : Class) → list_all (λ d. is_none (named_area d name)) classes ≡ true → named_area c name ≡ None
-unnamed b name Text e = none_is (named_area Text name) (and_left _ _ e)
-unnamed b name Rodata e = none_is (named_area Rodata name) (and_left _ _ (and_right (is_none (named_area Text name)) _ e))
-unnamed b name Rwdata e = none_is (named_area Rwdata name) (and_left _ _ (and_right (is_none (named_area Rodata name)) _ (and_right (is_none (named_area Text name)) _ e)))
-unnamed b name Bss e = refl
+unnamed : (name : List ℕ) (c : Class) → list_all (λ d. is_none (named_area d name)) classes ≡ true → named_area c name ≡ None
+unnamed name Text e = none_is (named_area Text name) (and_left _ _ e)
+unnamed name Rodata e = none_is (named_area Rodata name) (and_left _ _ (and_right (is_none (named_area Text name)) _ e))
+unnamed name Rwdata e = none_is (named_area Rwdata name) (and_left _ _ (and_right (is_none (named_area Rodata name)) _ (and_right (is_none (named_area Text name)) _ e)))
+unnamed name Bss e = refl
 
 untyped : (c : Class) (kind : ℕ) → kind ≡ 1 → typed_area c kind ≡ None
 untyped Text kind e = refl
@@ -134,4 +135,12 @@ untyped Bss kind e = refl
 pub ordinary_code : (kit : Kit) (b : List ℕ) (y : Section) → kit.runs ≡ [] → IsCode b y → area_of kit (text_at b y.name) y ≡ class_number (class_of y)
 ordinary_code kit b y runs code =
     let kind : y.kind ≡ 1 = (let k = code.kind in grind arith) in
-    rw (unnamed b (text_at b y.name) (class_of y) code.no_area, untyped (class_of y) y.kind kind, runs) refl
+    rw (unnamed (text_at b y.name) (class_of y) code.no_area, untyped (class_of y) y.kind kind, runs) refl
+
+-- its name is not that of the frames of calls
+pub not_frame : (name : List ℕ) → list_all (λ d. is_none (named_area d name)) classes ≡ true → bytes_eq name (codes ".eh_frame") ≡ false
+not_frame name e = go (bytes_eq name (codes ".eh_frame")) refl (unnamed name Rodata e)
+  where
+    go : (t : Bool) → bytes_eq name (codes ".eh_frame") ≡ t → cond {A = Option ℕ} t (Some 7) None ≡ None → bytes_eq name (codes ".eh_frame") ≡ false
+    go true t h = cc
+    go false t h = t
