@@ -5,3 +5,4 @@ pub mod Sequences
 pub mod Lines
 pub mod TextPlaced
 pub mod LayStep
+pub mod OnlyPlacement

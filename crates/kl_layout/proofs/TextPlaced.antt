@@ -97,10 +97,10 @@ each_at f n (x ∷ xs) zero d e h = let here : n + zero ≡ n = omega arith in r
 each_at f n (x ∷ xs) (suc k) d e h = let next : n + suc k ≡ suc n + k = omega arith in rw next (each_at f (suc n) xs k d e (omega arith))
 
 -- the names and sizes of pieces with any addresses
-abbrev placed_name : Placed → PieceId × ℕ
+abbrev pub placed_name : Placed → PieceId × ℕ
 placed_name x = (x.id, x.size)
 
-abbrev piece_name : Piece → PieceId × ℕ
+abbrev pub piece_name : Piece → PieceId × ℕ
 piece_name x = (x.id, x.size)
 
 names_of : (address : ℕ → Piece → ℕ) (n : ℕ) (xs : List Piece)

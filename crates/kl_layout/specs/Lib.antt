@@ -1,2 +1,3 @@
 pub mod TextLine
 pub mod Spans
+pub mod OnePlacement

@@ -4,6 +4,8 @@ use Rattle.kl_model.specs.Carries.{span_limit}
 use Rattle.kl_model.specs.declared.place.Made.{Made}
 use Rattle.kl_layout.specs.declared.fault.LayoutFault.{LayoutFault}
 use Rattle.kl_layout.specs.declared.fault.LayoutFault.TheVariants as fault
+use Rattle.kl_model.specs.declared.link.LinkFault.{LinkFault}
+use Rattle.kl_model.specs.declared.link.LinkFault.TheVariants as link
 
 -- the sizes of the areas that a linker makes, where it makes none
 abbrev pub no_made : Made
@@ -12,3 +14,8 @@ no_made = record { stubs = 0; tables = 0; got = 0; dynamic = 0 }
 -- the fault of a span: it passes the limit
 abbrev pub layout_fault : ℕ → Option LayoutFault
 layout_fault n = cond (nat_lt span_limit n) (Some (fault.Span n span_limit)) None
+
+-- such a fault as the fault of a link
+abbrev pub as_link_fault : LayoutFault → LinkFault
+as_link_fault (fault.Span n limit) = link.Span n limit
+as_link_fault fault.NoMemory = link.NoMemory

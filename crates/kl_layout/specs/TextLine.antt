@@ -1,11 +1,9 @@
 -- What stands in text, in order: the ordinary pieces of each input, by the sequence of the inputs.
-use Rattle.std.specs.Prelude.{ℕ, ◌%◌, ◌^◌, ◌≡◌, ◌<◌, ◌≤◌, ◌&&◌, ◌==◌, List, [], ◌∷◌, ◌++◌, map, flat_map, slice_index, replicate, unwrap_or}
+use Rattle.std.specs.Prelude.{ℕ, ◌%◌, ◌^◌, ◌≡◌, ◌<◌, ◌≤◌, List, [], ◌∷◌, ◌++◌, map, flat_map, length, slice_index, slice_index_or, replicate, unwrap_or}
 use Rattle.std.specs.List.{IsDistinct}
 use Rattle.kl_base.specs.declared.class.Class.TheVariants.{Text}
-use Rattle.kl_model.specs.Lists.{only_if}
-use Rattle.kl_model.specs.Kept.{same_class}
 use Rattle.kl_model.specs.Fit.{size_limit}
-use Rattle.kl_model.specs.Line.{piece_part, is_of_input, inputs_in, of_input}
+use Rattle.kl_model.specs.Line.{inputs_in, of_input}
 use Rattle.kl_model.specs.Laid.{up, page, reach}
 use Rattle.kl_model.specs.Placed.{same_body, stop_of, first_stop}
 use Rattle.kl_model.specs.declared.object.Part.TheVariants.{Head, Drawn, Tail}
@@ -20,14 +18,15 @@ use Rattle.kl_model.specs.declared.place.Placed.{Placed}
 abbrev pub input_sequence : Graph → List ℕ → List ℕ
 input_sequence g order = inputs_in g Head ++ (map (slice_index (inputs_in g Drawn)) order ++ inputs_in g Tail)
 
--- piece n as a part, where it is an ordinary piece of text of input i
-abbrev pub text_part : ℕ → ℕ → Piece → List LinePart
-text_part i n x = only_if (is_of_input i x.id && (same_class x.class Text && (x.area == 0))) (piece_part n x)
-
 -- the ordinary pieces of text of an input
 abbrev pub text_of : Graph → ℕ → List LinePart
 text_of g i = of_input g Text 0 i
 
+-- lists with the ordinary pieces of text of each input
+abbrev pub AreTexts : Graph → List (List LinePart) → Type 0
+AreTexts g lists = (i : ℕ) → i < length lists → slice_index_or lists i [] ≡ text_of g i
+
+-- the line of text
 abbrev pub text_line : Graph → List ℕ → List LinePart
 text_line g order = flat_map (text_of g) (input_sequence g order)
 
@@ -46,6 +45,10 @@ AreOnce parts = IsDistinct (λ x y. same_body x.body y.body) parts
 -- the address of piece n among parts that are laid from an address on, kept modulo 2^64; 0 where it isn't there
 abbrev pub address_in : ℕ → List LinePart → ℕ → ℕ
 address_in from parts n = unwrap_or (stop_of (body.Piece n) from parts) 0 % 2 ^ 64
+
+-- addresses by number are those of the pieces among parts that are laid from an address on
+abbrev pub AreAddresses : ℕ → List LinePart → List ℕ → Type 0
+AreAddresses from parts addresses = (n : ℕ) → n < length addresses → slice_index addresses n ≡ address_in from parts n
 
 -- a piece at the address that addresses by number give
 abbrev pub piece_at_address : List ℕ → ℕ → Piece → List Placed

@@ -1,6 +1,9 @@
 // Why a graph is not laid out.
 ghost use Rattle.std.specs.Prelude.{◌≡◌};
 ghost use Rattle.kl_layout.specs.declared.fault.LayoutFault.TheVariants as fault;
+ghost use Rattle.kl_layout.specs.Spans.{as_link_fault};
+
+use kl_model::LinkFault;
 
 /// Why a graph is not laid out.
 #[derive(Clone, Copy, Debug, PartialEq, Eq)]
@@ -15,5 +18,16 @@ impl From<kl_base::NoMemory> for LayoutFault {
 
     fn from(_: kl_base::NoMemory) -> Self {
         LayoutFault::NoMemory
+    }
+}
+
+impl From<LayoutFault> for LinkFault {
+    ghost from_gives = { λ x e. e ≡ as_link_fault x };
+
+    fn from(fault: LayoutFault) -> Self {
+        match fault {
+            LayoutFault::Span { found, limit } => LinkFault::Span { found, limit },
+            LayoutFault::NoMemory => LinkFault::NoMemory,
+        }
     }
 }

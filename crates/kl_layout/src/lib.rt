@@ -2,9 +2,14 @@
 #![tactic(auto)]
 
 mod fault;
+mod laws;
 mod line;
 mod placement;
 mod stops;
 
 pub use fault::LayoutFault;
+pub use laws::one_placement;
 pub use placement::place;
+
+#[cfg(test)]
+mod tests;

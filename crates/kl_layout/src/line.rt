@@ -3,7 +3,7 @@ ghost use Rattle.std.specs.Prelude.{ℕ, ◌≡◌, ◌<◌, ◌≤◌, ◌^◌,
 ghost use Rattle.kl_model.specs.Line.{inputs_in};
 ghost use Rattle.kl_model.specs.Orders.{drawn_count, IsOrder};
 ghost use Rattle.kl_model.specs.Simple.{IsSimplePiece, IsSimpleGraph};
-ghost use Rattle.kl_layout.specs.TextLine.{input_sequence, text_of, text_line};
+ghost use Rattle.kl_layout.specs.TextLine.{input_sequence, AreTexts, text_line};
 
 use kl_base::{Listed, NoMemory};
 use kl_model::{Body, Graph, LinePart, Part, PieceId};
@@ -56,7 +56,7 @@ fn parts_by_input(alloc: Global, graph: &Graph) -> Result<Vec<Listed<LinePart>>,
     requires pieces { All (IsSimplePiece (length graph.now.parts)) graph.now.pieces }
     requires count { length graph.now.pieces < 2 ^ 23 }
     ensures count { IfOk result (λ v. length v.items ≡ length graph.now.parts) }
-    ensures parts { IfOk result (λ v. (i : ℕ) → i < length v.items → slice_index_or v.items i [] ≡ text_of graph.now i) }
+    ensures texts { IfOk result (λ v. AreTexts graph.now v.items) }
 {
     let mut lists = no_parts(alloc, graph.parts.items().len())?;
     for (number, piece) in graph.pieces.items().iter().enumerate() {

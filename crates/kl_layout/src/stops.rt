@@ -1,7 +1,7 @@
 // Parts that stand one behind another.
-ghost use Rattle.std.specs.Prelude.{ℕ, ◌≡◌, ◌+◌, ◌*◌, ◌<◌, ◌≤◌, ◌^◌, length, slice_index, IfOk, All};
+ghost use Rattle.std.specs.Prelude.{◌≡◌, ◌+◌, ◌*◌, ◌<◌, ◌≤◌, ◌^◌, length, IfOk, All};
 ghost use Rattle.kl_model.specs.Laid.{up, reach};
-ghost use Rattle.kl_layout.specs.TextLine.{IsPiecePart, AreOnce, address_in};
+ghost use Rattle.kl_layout.specs.TextLine.{IsPiecePart, AreOnce, AreAddresses};
 
 use kl_base::NoMemory;
 use kl_model::{Body, LinePart};
@@ -30,8 +30,8 @@ pub(crate) fn lay(
     requires once { AreOnce parts.now }
     requires few { length parts.now < 2 ^ 23 }
     ensures count { IfOk result (λ r. length r.0.items ≡ count) }
-    ensures each { IfOk result (λ r. (n : ℕ) → n < count → slice_index r.0.items n ≡ address_in from parts.now n) }
-    ensures short { IfOk result (λ r. r.1 ≤ length parts.now * 1075838976) }
+    ensures addresses { IfOk result (λ r. AreAddresses from parts.now r.0.items) }
+    ensures short { IfOk result (λ r. r.1 ≤ length parts.now * (2 ^ 30 + 2 ^ 21)) }
     ensures reach { IfOk result (λ r. from + r.1 ≡ reach from parts.now) }
 {
     let mut addresses = vec![in alloc; 0; count]?;

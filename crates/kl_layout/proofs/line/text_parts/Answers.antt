@@ -26,7 +26,7 @@ loop-input-preserved c =
     let here = ap (λ (l : List ℕ). get_or l k 0) inputs in
     let inside : input < length lists = omega (arith, known, here, c.in_ok-lists.ensures.count) in
     let part : c.items.result.now ≡ text_of g input =
-    c.items.ensures ∙ (c.index.ensures ∙ (get_or_default lists input c.index.result.now [] inside ∙ c.in_ok-lists.ensures.parts input inside)) in
+    c.items.ensures ∙ (c.index.ensures ∙ (get_or_default lists input c.index.result.now [] inside ∙ c.in_ok-lists.ensures.texts input inside)) in
     ap (λ l. l ++ rest) c.in_ok-extend_from_slice.ensures.items
     ∙ (append_assoc before c.items.result.now rest
     ∙ (ap (λ l. before ++ (l ++ rest)) part

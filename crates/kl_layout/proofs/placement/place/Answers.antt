@@ -48,7 +48,7 @@ returns-then-found-gt-SPAN_LIMIT-clause-err c =
     let parts : c.deref.result.now ≡ text_line g order = c.deref.ensures.value ∙ c.in_ok-parts.ensures in
     let page = c.requires.kit.base_page in
     let found = span_from kit g order c.requires.simple c.in_ok-addresses.size page.0 page.1 (rw parts at c.in_ok-addresses.ensures.reach) in
-    let past = lt-ltb 536870912 c.next_multiple_of-found.result c.if-found-gt-SPAN_LIMIT.true in
+    let past = lt-ltb 536870912 c.next_multiple_of-found.result (omega arith) in
     inr (rw (c.requires.no_made, found, ← c.next_multiple_of-found.ensures.value, past) refl)
 
 pub areas_of-requires-clause-aligned : goal.areas_of-requires-clause-aligned
@@ -70,7 +70,7 @@ returns c =
     let it = placed_from kit g order simple c.in_ok-areas_of.field-0 c.in_ok-placed_pieces.field-0 c.deref-3.result.now c.deref-2.result.now again
     c.in_ok-areas_of.ensures c.in_ok-placed_pieces.ensures
     (λ n h. ap (λ (l : List ℕ). get_or l n 0) c.deref-3.ensures.value
-    ∙ (c.in_ok-addresses.ensures.each n (omega (arith, ap length c.items.ensures)) ∙ ap (λ l. address_in kit.base l n) (parts ∙ sym again))) in
+    ∙ (c.in_ok-addresses.ensures.addresses n (omega (arith, c.in_ok-addresses.ensures.count, ap length c.items.ensures)) ∙ ap (λ l. address_in kit.base l n) (parts ∙ sym again))) in
     let small : span kit g None order no_made ≤ 536870912 =
     omega (
       arith,

@@ -10,7 +10,7 @@ use Rattle.kl_layout.proofs.stops.lay.Given as goal
 abbrev pub invariant-loop-part : goal.invariant-loop-part
 invariant-loop-part l = record {
   count : length l.addresses.items ≡ l.count;
-  small : l.size ≤ l.part-index * 1075838976;
+  small : l.size ≤ l.part-index * (2 ^ 30 + 2 ^ 21);
   once : AreOnce (drop l.part-index l.parts);
   each : (n : ℕ) → n < l.count → unwrap_or (stop_of (body.Piece n) (l.from + l.size) (drop l.part-index l.parts)) (get_or l.addresses.items n 0) % 2 ^ 64
       ≡ address_in l.from l.parts n;

@@ -1,0 +1,185 @@
+ghost use Rattle.std.specs.Prelude.{ℕ, ◌≡◌, ◌*◌, ◌<◌, ◌≤◌, ◌^◌, [], length, IfOk, All};
+ghost use Rattle.kl_model.specs.Fit.{IsKernelKit};
+ghost use Rattle.kl_model.specs.Simple.{IsSimplePiece, IsSimpleGraph};
+ghost use Rattle.kl_model.specs.declared.kit.Kit.{Kit};
+
+use crate::{LayoutFault, place};
+use kl_base::{Class, Listed, Name, NoMemory, Range};
+use kl_model::{AreaAt, Graph, Kit, KitKind, Made, Part, Piece, PieceId, Placement, Word};
+use std::alloc::Global;
+use std::test::Fail;
+
+const NO_MADE: Made = Made {
+    stubs: 0,
+    tables: 0,
+    got: 0,
+    dynamic: 0,
+};
+
+// A kernel's kit whose base is a page of this number.
+fn kernel(alloc: Global, page: u64) -> Result<Kit, Fail>
+    requires { page ≤ 0xffffffffe0000 }
+    ensures kernel { IfOk result (λ kit. IsKernelKit kit) }
+    ensures no_runs { IfOk result (λ kit. kit.runs ≡ []) }
+{
+    Ok(Kit {
+        kind: KitKind::Kernel,
+        output: Name::from_bytes(b"/bsd").ok().ok_or("a name")?,
+        base: 4096 * page,
+        entry: Some(Word::new(alloc)),
+        inputs: Listed::new(alloc),
+        runs: Listed::new(alloc),
+        edges: Listed::new(alloc),
+        drops: Listed::new(alloc),
+        needed: Listed::new(alloc),
+        exports: Listed::new(alloc),
+        soname: None,
+        symbolic: false,
+        refuse: false,
+    })
+}
+
+// The `.text` of an input, aligned to 16 bytes.
+fn text(input: u32, size: u64) -> Piece
+    requires { size ≤ 2 ^ 30 }
+    ensures { (inputs : ℕ) → input < inputs → IsSimplePiece inputs result }
+{
+    Piece {
+        id: PieceId::Section { input, section: 1 },
+        class: Class::Text,
+        area: 0,
+        size,
+        align: 16,
+        bytes: Range { at: 64, len: size },
+    }
+}
+
+// A graph of inputs with one text section each.
+fn graph(alloc: Global, parts: Vec<Part>, sizes: &[u64]) -> Result<Graph, NoMemory>
+    requires count { length sizes.now ≡ length parts.items }
+    requires few { length sizes.now ≤ 16 }
+    requires sizes { All (λ n. n ≤ 2 ^ 30) sizes.now }
+    ensures simple { IfOk result (λ g. (kit : Kit) → kit.runs ≡ [] → IsSimpleGraph kit g) }
+    ensures parts { IfOk result (λ g. g.parts ≡ parts.items) }
+{
+    let mut pieces = Listed::new(alloc);
+    for (input, size) in sizes.iter().enumerate() {
+        pieces.push(text(input as u32, *size))?;
+    }
+    Ok(Graph {
+        pieces,
+        fields: Listed::new(alloc),
+        names: Listed::new(alloc),
+        entry: None,
+        parts: Listed::from_vec(parts),
+    })
+}
+
+// The addresses of the pieces, in the graph's order.
+fn addresses(alloc: Global, placement: &Placement) -> Result<Vec<u64>, NoMemory> {
+    let mut found = Vec::new(alloc);
+    for piece in placement.pieces.items() {
+        found.push(piece.address)?;
+    }
+    Ok(found)
+}
+
+#[test]
+fn places_two_objects(rt: HostRuntime) -> Result<(), Fail> {
+    let alloc = rt.alloc();
+    let kit = kernel(alloc, 0xf_ffff_fff8_1000)?;
+    let parts = vec![in alloc; Part::Head, Part::Drawn]?;
+    let graph = graph(alloc, parts, &[1, 5])?;
+    let placement = place(alloc, &kit, &graph, None, &[0], &NO_MADE)
+        .ok()
+        .ok_or("no memory")?;
+    assert_eq!(rt; placement.base, 0xffff_ffff_8100_0000);
+    assert_eq!(rt;
+        addresses(alloc, &placement)?.as_slice(),
+        [0xffff_ffff_8100_0000, 0xffff_ffff_8100_0010].as_slice()
+    );
+    let text = AreaAt {
+        start: 0xffff_ffff_8100_0000,
+        end: 0xffff_ffff_8100_0015,
+    };
+    let at_end = AreaAt {
+        start: 0xffff_ffff_8100_0015,
+        end: 0xffff_ffff_8100_0015,
+    };
+    let at_next = AreaAt {
+        start: 0xffff_ffff_8100_1000,
+        end: 0xffff_ffff_8100_1000,
+    };
+    assert_eq!(rt;
+        placement.areas.items(),
+        [
+            text, at_next, at_next, at_next, at_end, at_end, at_end, at_next, at_next, at_next,
+            at_next, at_next, at_next, at_next, at_next,
+        ]
+        .as_slice()
+    );
+    Ok(())
+}
+
+#[test]
+fn places_drawn_inputs_in_both_orders(rt: HostRuntime) -> Result<(), Fail> {
+    let alloc = rt.alloc();
+    let kit = kernel(alloc, 0xf_ffff_fff8_1000)?;
+    let parts = vec![in alloc; Part::Head, Part::Drawn, Part::Drawn, Part::Tail]?;
+    let graph = graph(alloc, parts, &[1, 0x21, 5, 2])?;
+    let first = place(alloc, &kit, &graph, None, &[0, 1], &NO_MADE)
+        .ok()
+        .ok_or("no memory")?;
+    assert_eq!(rt;
+        addresses(alloc, &first)?.as_slice(),
+        [
+            0xffff_ffff_8100_0000,
+            0xffff_ffff_8100_0010,
+            0xffff_ffff_8100_0040,
+            0xffff_ffff_8100_0050,
+        ]
+        .as_slice()
+    );
+    let second = place(alloc, &kit, &graph, None, &[1, 0], &NO_MADE)
+        .ok()
+        .ok_or("no memory")?;
+    assert_eq!(rt;
+        addresses(alloc, &second)?.as_slice(),
+        [
+            0xffff_ffff_8100_0000,
+            0xffff_ffff_8100_0020,
+            0xffff_ffff_8100_0010,
+            0xffff_ffff_8100_0050,
+        ]
+        .as_slice()
+    );
+    Ok(())
+}
+
+// The greatest span, from the highest base on, ends at 2^64. One byte more takes one page more.
+#[test]
+fn refuses_a_page_too_many(rt: HostRuntime) -> Result<(), Fail> {
+    let alloc = rt.alloc();
+    let kit = kernel(alloc, 0xf_ffff_fffe_0000)?;
+    let parts = vec![in alloc; Part::Head, Part::Head]?;
+    let greatest = graph(alloc, parts, &[536_870_896, 16])?;
+    let placement = place(alloc, &kit, &greatest, None, &[], &NO_MADE)
+        .ok()
+        .ok_or("no memory")?;
+    let text = AreaAt {
+        start: 0xffff_ffff_e000_0000,
+        end: 0,
+    };
+    assert_eq!(rt; placement.areas.items().first(), Some(&text));
+    let parts = vec![in alloc; Part::Head, Part::Head]?;
+    let too_long = graph(alloc, parts, &[536_870_896, 17])?;
+    let fault = LayoutFault::Span {
+        found: 536_875_008,
+        limit: 536_870_912,
+    };
+    assert_eq!(rt;
+        place(alloc, &kit, &too_long, None, &[], &NO_MADE).err(),
+        Some(fault)
+    );
+    Ok(())
+}
