@@ -3,7 +3,7 @@ ghost use Rattle.std.specs.Prelude.{◌≡◌, ◌≤◌, ◌∷◌, ◌++◌, N
 ghost use Rattle.std.specs.Option.{ForSome};
 ghost use Rattle.kl_store.specs.Calls.{HasCause, Rose, Stays};
 ghost use Rattle.kl_store.specs.Files.{SameFiles};
-ghost use Rattle.kl_model.specs.First.{FirstForm};
+ghost use Rattle.kl_first.specs.Links.{Links};
 ghost use Rattle.kl_cli.specs.Answers.{IsRefusal, Refuses, link_refusal};
 ghost use Rattle.kl_cli.specs.Links.{AreLinked, IsKitOf, Leaves};
 ghost use Rattle.kl_cli.specs.Writing.{PutsPair};
@@ -16,7 +16,7 @@ use kl_base::{INPUT_LIMIT, KIT_TEXT_LIMIT, Name, NoMemory};
 use kl_first::{first_kit, kit_of, read_first_object};
 use kl_kernel::link_kernel;
 use kl_map::{Map, print_map};
-use kl_model::{Input, Kit};
+use kl_model::{Input, Kit, LinkFault};
 use kl_store::{Failed, Store};
 use std::alloc::Global;
 
@@ -53,11 +53,13 @@ pub fn link<S: Store>(alloc: Global, dir: &Name, store: &mut S) -> Result<(), Ca
 
 /// The image of a kit and the text of its map.
 fn link_source(alloc: Global, source: &Source) -> Result<Files, NoMemory>
-    requires { FirstForm source.now.kit source.now.inputs.items }
+    requires { Links source.now.kit source.now.inputs.items }
     ensures { IfOk result (λ f. AreLinked source.now.kit source.now.inputs.items f.image.items f.map.items) }
 {
-    let Ok(linked) = link_kernel(alloc, &source.kit, &source.inputs, None, &[]) else {
-        return Err(NoMemory);
+    let linked = match link_kernel(alloc, &source.kit, &source.inputs, None, &[]) {
+        Ok(linked) => linked,
+        Err(LinkFault::NoMemory) => return Err(NoMemory),
+        Err(_) => unreachable!(),
     };
     let image = linked.image;
     let map = Map {
@@ -74,7 +76,7 @@ fn read_source<S: Store>(alloc: Global, dir: &Name, store: &mut S) -> Result<Sou
     requires { length dir.now ≤ 127 }
     ensures reads { IfOk result (λ s. ForSome (S.meaning store.old).names (λ m. IsKitOf m dir.now s.kit s.inputs.items)) }
     ensures stands { OnOk result (ForSome (S.meaning store.old).names (λ m. link_refusal m dir.now ≡ None)) }
-    ensures form { IfOk result (λ s. FirstForm s.kit s.inputs.items) }
+    ensures links { IfOk result (λ s. Links s.kit s.inputs.items) }
     ensures refused { IfErr result (Refuses (S.meaning store.old) (λ m. link_refusal m dir.now)) }
     ensures refusal { IfErr result IsRefusal }
     ensures failed { IsErrOf result Cause.Store → Rose (S.faults store.old) (S.faults store.new) }

@@ -1,3 +1,4 @@
 pub mod KitText
 pub mod ObjectFile
 pub mod SectionsAt
+pub mod Links

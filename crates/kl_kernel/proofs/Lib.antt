@@ -1,3 +1,9 @@
-pub mod FirstGraph
-pub mod FirstLaid
-pub mod FirstCarries
+pub mod Places
+pub mod PieceBytes
+pub mod FieldValues
+pub mod FilledImages
+pub mod TextImages
+pub mod TextLaid
+pub mod TextCarries
+pub mod LinkFaults
+pub mod LinkSteps

@@ -1,9 +1,9 @@
 //! Links a kernel: from a kit and its inputs to an image and its placement.
 #![tactic(auto)]
 
-mod first;
+mod fields;
+mod image;
+mod link;
+mod pieces;
 
-pub use first::link_kernel;
-
-#[cfg(test)]
-mod tests;
+pub use link::link_kernel;

@@ -79,11 +79,11 @@ pub head_left : {Y : Type 0} (xs ys : List Y) (e : Y) → slice_get xs 0 ≡ Som
 head_left [] ys e h = cc
 head_left (x ∷ xs) ys e h = h
 
-none_left : {Y : Type 0} (xs ys : List Y) → xs ++ ys ≡ [] → xs ≡ []
+pub none_left : {Y : Type 0} (xs ys : List Y) → xs ++ ys ≡ [] → xs ≡ []
 none_left [] ys h = refl
 none_left (x ∷ xs) ys h = cc
 
-none_right : {Y : Type 0} (xs ys : List Y) → xs ++ ys ≡ [] → ys ≡ []
+pub none_right : {Y : Type 0} (xs ys : List Y) → xs ++ ys ≡ [] → ys ≡ []
 none_right [] ys h = h
 none_right (x ∷ xs) ys h = cc
 

@@ -40,7 +40,7 @@ le-start at from [] a s = (omega arith, omega arith)
 le-start at from (x ∷ xs) a s =
     (omega (arith, le-up from x.align a.0, s.0), omega (arith, le-reach (up from x.align + x.size) xs a.1, s.0))
 
-get_found : (xs : List AreaAt) (n : ℕ) (x : AreaAt) → slice_get xs n ≡ Some x → get_or xs n no_area ≡ x
+pub get_found : (xs : List AreaAt) (n : ℕ) (x : AreaAt) → slice_get xs n ≡ Some x → get_or xs n no_area ≡ x
 get_found [] n x e = cc
 get_found (y ∷ ys) zero x e = cc
 get_found (y ∷ ys) (suc n) x e = get_found ys n x e
@@ -57,7 +57,7 @@ stand-append at from [] ys s t = t
 stand-append at from (x ∷ xs) ys s t = (s.0, stand-append at (at x.body + x.size) xs ys s.1 t)
 
 -- the parts of areas that stand so stand so
-areas-stand : (p : Placement) (at : Body → ℕ) (from : ℕ) (ss : List Spread) → AreasStand p at from ss → Stand at from (flat_map (λ s. s.parts) ss)
+pub areas-stand : (p : Placement) (at : Body → ℕ) (from : ℕ) (ss : List Spread) → AreasStand p at from ss → Stand at from (flat_map (λ s. s.parts) ss)
 areas-stand p at from [] a = tt
 areas-stand p at from (s ∷ ss) a = stand-append at from s.parts (flat_map (λ x. x.parts) ss) a.0 (areas-stand p at (end_of at from s.parts) ss a.2)
 
@@ -67,7 +67,7 @@ pub record IsLaidFrom (p : Placement) (kit : Kit) (g : Graph) (gaps : Option Gap
   pub ordered : (area_at p (class_number c)).start ≤ (area_at p (class_number c)).end
   pub ends : (area_at p (class_number c)).end ≡ reach from (line kit g gaps order made c)
 
-class_is : (p : Placement) (kit : Kit) (g : Graph) (gaps : Option Gaps) (order : List ℕ) (made : Made) (c : Class) (from : ℕ) → ClassLaid p kit g gaps order made c from
+pub class_is : (p : Placement) (kit : Kit) (g : Graph) (gaps : Option Gaps) (order : List ℕ) (made : Made) (c : Class) (from : ℕ) → ClassLaid p kit g gaps order made c from
     → Aligned (line kit g gaps order made c) → p.base < 2 ^ 64 → p.base ≤ from → reach from (line kit g gaps order made c) < p.base + 2 ^ 64 → IsLaidFrom p kit g gaps order made c from
 class_is p kit g gaps order made c from l a b f h =
     let stand = areas-stand p (place_of p g) from (spreads kit g gaps order made c) l.areas in

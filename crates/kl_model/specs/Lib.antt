@@ -13,4 +13,3 @@ pub mod Orders
 pub mod Fit
 pub mod Faults
 pub mod Simple
-pub mod First

@@ -1,11 +1,11 @@
 -- The first fault of a simple kit's names, pass by pass.
-use Rattle.std.proofs.Common.{◌≡◌, List, [], refl}
+use Rattle.std.proofs.Common.{◌≡◌, List, [], refl, ◌∷◌}
 use Rattle.std.specs.Prelude.{Some, None, slice_get}
 use Rattle.kl_model.specs.Faults.{resolve_faults, resolve_fault, doubled, clashes, no_entry, all_field_faults}
 use Rattle.kl_model.specs.declared.object.Input.{Input}
 use Rattle.kl_model.specs.declared.kit.Kit.{Kit}
 use Rattle.kl_model.specs.declared.link.LinkFault.{LinkFault}
-use Rattle.kl_model.proofs.Each.{head_left}
+use Rattle.kl_model.proofs.Each.{head_left, none_right}
 
 module _ (kit : Kit) (inputs : List Input) (none : clashes kit inputs ≡ []) where
   pub first-doubled : (e : LinkFault) → slice_get (doubled kit inputs) 0 ≡ Some e → resolve_fault kit inputs ≡ Some e
@@ -23,3 +23,14 @@ module _ (kit : Kit) (inputs : List Input) (none : clashes kit inputs ≡ []) wh
   pub no-fault : doubled kit inputs ≡ [] → no_entry kit inputs ≡ [] → all_field_faults kit inputs ≡ [] → resolve_fault kit inputs ≡ None
   unfolding resolve_faults
   no-fault d n f = rw (d, none, n, f) refl
+
+none_head : (xs : List LinkFault) → slice_get xs 0 ≡ None → xs ≡ []
+none_head [] e = refl
+none_head (x ∷ xs) e = cc
+
+-- where no fault stands no field has one
+pub sound-fields : (kit : Kit) (inputs : List Input) → resolve_fault kit inputs ≡ None → all_field_faults kit inputs ≡ []
+unfolding resolve_faults
+sound-fields kit inputs e =
+    let none = none_head (resolve_faults kit inputs) e in
+    none_right (no_entry kit inputs) _ (none_right (clashes kit inputs) _ (none_right (doubled kit inputs) _ none))

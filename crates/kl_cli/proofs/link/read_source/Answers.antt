@@ -2,7 +2,7 @@ use Rattle.std.proofs.Common.{◌≡◌}
 use Rattle.kl_store.proofs.Moments.{told_stays}
 use Rattle.kl_first.specs.ObjectFile.{input_of}
 use Rattle.kl_first.proofs.KitTexts.{is_file-name, first_kit-found}
-use Rattle.kl_first.proofs.FirstForms.{first-form}
+use Rattle.kl_first.proofs.FirstLinks.{first-links}
 use Rattle.kl_cli.proofs.Refused.{link_refusal-none, read_object}
 use Rattle.kl_cli.proofs.link.read_source.Goals as goal
 
@@ -19,10 +19,10 @@ returns-clause-stands g c = λ m told.
     let first = read_object c.in-Some-2.input c.in_ok-input.field-0 c.in_ok-bytes.bytes.items entry c.in-Some-2.is c.in_ok-input.ensures.form in
     link_refusal-none m c.args.dir.now c.in_ok-text.text.items c.in_ok-bytes.bytes.items entry file text c.in_ok-text.ensures.within words object c.in_ok-bytes.ensures.within first
 
-pub returns-clause-form : goal.returns-clause-form
-returns-clause-form g c =
+pub returns-clause-links : goal.returns-clause-links
+returns-clause-links g c =
     let entry = c.in-Some.first.entry.now in
     let file = c.in-Some.first.file.now in
     let first = read_object c.in-Some-2.input c.in_ok-input.field-0 c.in_ok-bytes.bytes.items entry c.in-Some-2.is c.in_ok-input.ensures.form in
     let input : c.in-Some-2.input ≡ input_of c.in_ok-bytes.bytes.items = rw c.in-Some-2.is at c.in_ok-input.ensures.input in
-    rw (c.in_ok-kit_of.ensures, c.in_ok-vec.ensures.items, input) (first-form c.in_ok-bytes.bytes.items entry file first c.in_ok-bytes.ensures.within)
+    rw (c.in_ok-kit_of.ensures, c.in_ok-vec.ensures.items, input) (first-links c.in_ok-bytes.bytes.items entry file first c.in_ok-bytes.ensures.within)

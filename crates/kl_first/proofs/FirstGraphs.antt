@@ -16,7 +16,7 @@ use Rattle.kl_model.specs.declared.object.Section.{Section}
 use Rattle.kl_model.specs.declared.object.Symbol.{Symbol}
 use Rattle.kl_model.specs.declared.object.Input.{Input}
 use Rattle.kl_model.specs.declared.kit.Kit.{Kit}
-use Rattle.kl_model.specs.First.{FirstForm, IsText}
+use Rattle.kl_first.proofs.Forms.{FirstForm, IsText}
 
 -- the graph: one piece, and the entry in it
 abbrev pub first_graph : Section → Symbol → Graph

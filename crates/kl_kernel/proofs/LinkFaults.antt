@@ -1,0 +1,68 @@
+-- The first fault of a link: of names first, then the span, then the range of fields.
+use Rattle.std.proofs.Common.{◌≡◌, ℕ, ◌≤◌, ◌<◌, ◌∙◌, ◌⊎◌, List, [], ◌∷◌, ◌++◌, length, get_or, Option, refl, ap, sym, arith, Bool, true, false, nat_lt}
+use Rattle.std.specs.Prelude.{Some, None, All, slice_get}
+use Rattle.std.specs.Option.{option_map}
+use Rattle.std.proofs.lemmas.Bool.{le-ltb}
+use Rattle.kl_model.specs.Graphs.{graph}
+use Rattle.kl_model.specs.Laid.{span}
+use Rattle.kl_model.specs.Line.{made_of}
+use Rattle.kl_model.specs.Carries.{span_limit}
+use Rattle.kl_model.specs.Faults.{does_fit, graph_faults, link_fault, range_faults, resolve_fault, resolve_faults, span_faults}
+use Rattle.kl_model.specs.Placed.{placed}
+use Rattle.kl_model.specs.Simple.{IsWritable}
+use Rattle.kl_model.specs.declared.object.Input.{Input}
+use Rattle.kl_model.specs.declared.kit.Kit.{Kit}
+use Rattle.kl_model.specs.declared.graph.Graph.{Graph}
+use Rattle.kl_model.specs.declared.place.Placement.{Placement}
+use Rattle.kl_model.specs.declared.link.LinkFault.{LinkFault}
+use Rattle.kl_model.specs.declared.link.LinkFault.TheVariants as link
+use Rattle.kl_model.proofs.Each.{each-none, head_left}
+use Rattle.kl_layout.specs.declared.fault.LayoutFault.{LayoutFault}
+use Rattle.kl_layout.specs.declared.fault.LayoutFault.TheVariants as layout
+use Rattle.kl_layout.specs.Spans.{as_link_fault, layout_fault, no_made}
+use Rattle.kl_kernel.specs.TextImage.{HoldsValue}
+use Rattle.kl_kernel.proofs.TextCarries.{nothing_made}
+
+none_first : {X : Type 0} (xs : List X) → slice_get xs 0 ≡ None → xs ≡ []
+none_first [] e = refl
+none_first (x ∷ xs) e = cc
+
+pub values_fit : (img : List ℕ) (p : Placement) (g : Graph) → All (HoldsValue img p g) g.fields → range_faults p g ≡ []
+values_fit img p g hold = each-none 0 _ g.fields (λ k d l. rw (hold k d l).fits refl)
+
+-- a span past the limit is the first fault, and one within it none
+span_first : (n : ℕ) (rest : List LinkFault) (e : LayoutFault) → layout_fault n ≡ Some e → slice_get (span_faults n ++ rest) 0 ≡ Some (as_link_fault e)
+span_first n rest e h = go (nat_lt span_limit n) refl
+  where
+    go : (t : Bool) → nat_lt span_limit n ≡ t → slice_get (span_faults n ++ rest) 0 ≡ Some (as_link_fault e)
+    go true t =
+        let some : Some (layout.Span n span_limit) ≡ Some e = rw t at h in
+        rw t (ap (option_map as_link_fault) some)
+    go false t = let none : None ≡ Some e = rw t at h in cc
+
+span_within : (n : ℕ) (rest : List LinkFault) → n ≤ span_limit → span_faults n ++ rest ≡ rest
+span_within n rest h = rw (le-ltb span_limit n h) refl
+
+module _ (kit : Kit) (inputs : List Input) (order : List ℕ) where
+  pub first_of_names : (e : LinkFault) → resolve_fault kit inputs ≡ Some e → link_fault kit inputs None order ≡ Some e
+  unfolding link_fault
+  first_of_names e h = head_left (resolve_faults kit inputs) (graph_faults kit (graph kit inputs) None order) e h
+
+  module _ (sound : resolve_fault kit inputs ≡ None) (writable : IsWritable inputs (graph kit inputs)) where
+    after_names : link_fault kit inputs None order
+        ≡ slice_get (span_faults (span kit (graph kit inputs) None order no_made) ++ range_faults (placed kit (graph kit inputs) None order no_made) (graph kit inputs)) 0
+    unfolding link_fault
+    after_names =
+        let made = nothing_made kit inputs (graph kit inputs) writable in
+        ap (λ fs. slice_get (fs ++ graph_faults kit (graph kit inputs) None order) 0) (none_first (resolve_faults kit inputs) sound)
+        ∙ ap (λ m. slice_get (span_faults (span kit (graph kit inputs) None order m) ++ range_faults (placed kit (graph kit inputs) None order m) (graph kit inputs)) 0) made
+
+    pub of_span : (e : LayoutFault) → layout_fault (span kit (graph kit inputs) None order no_made) ≡ Some e → link_fault kit inputs None order ≡ Some (as_link_fault e)
+    of_span e h = after_names ∙ span_first (span kit (graph kit inputs) None order no_made) (range_faults (placed kit (graph kit inputs) None order no_made) (graph kit inputs)) e h
+
+    pub of_range : (p : Placement) → p ≡ placed kit (graph kit inputs) None order no_made → span kit (graph kit inputs) None order no_made ≤ span_limit
+        → link_fault kit inputs None order ≡ slice_get (range_faults p (graph kit inputs)) 0
+    of_range p is small =
+        after_names
+        ∙ ap (λ fs. slice_get fs 0) (span_within (span kit (graph kit inputs) None order no_made) (range_faults (placed kit (graph kit inputs) None order no_made) (graph kit inputs)) small
+        ∙ ap (λ q. range_faults q (graph kit inputs)) (sym is))
