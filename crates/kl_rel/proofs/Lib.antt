@@ -1,0 +1,10 @@
+pub mod Passes
+pub mod Places
+pub mod Strings
+pub mod Tables
+pub mod Bytes
+pub mod Entries
+pub mod Allocated
+pub mod Grouping
+pub mod Symbols
+pub mod Whole
