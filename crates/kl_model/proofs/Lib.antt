@@ -1,3 +1,9 @@
 pub mod Addresses
 pub mod Images
+pub mod Each
+pub mod ClassMemory
+pub mod InOrder
+pub mod Carried
+pub mod Covered
 pub mod Examples
+pub mod FaultExamples

@@ -9,6 +9,7 @@ use Rattle.kl_model.specs.Kept.{is_kept, input_at, name_at, no_symbol, area_of, 
 use Rattle.kl_model.specs.Names.{occurrences_of, is_common, common_names, definition, piece_number}
 use Rattle.kl_base.specs.declared.class.Class.TheVariants.{Bss}
 use Rattle.kl_model.specs.declared.object.Input.{Input}
+use Rattle.kl_model.specs.declared.object.RawField.{RawField}
 use Rattle.kl_model.specs.declared.object.Section.{Section}
 use Rattle.kl_model.specs.declared.object.Symbol.{Symbol}
 use Rattle.kl_model.specs.declared.kit.Kit.{Kit}
@@ -83,17 +84,22 @@ common_pieces kit inputs = each (common_names kit inputs) (λ k name.
       bytes = record { at = 0; len = 0 };
     } ∷ [])
 
--- the fields of kept sections, but those of type R_X86_64_NONE (psABI, 0)
+-- the field of a relocation entry, where its section is kept and its type isn't R_X86_64_NONE (psABI, 0)
+abbrev pub kept_field : Kit → List Input → ℕ → RawField → List Field
+kept_field kit inputs i f = only_if (is_kept kit inputs i f.section && not (f.kind == 0)) (record {
+  from = record { input = i; section = f.rela; index = f.index };
+  piece = piece_number kit inputs i f.section;
+  offset = f.offset;
+  kind = f.kind;
+  addend = f.addend;
+  target = result_unwrap_or (target kit inputs i f.section f.symbol) Zero;
+})
+
+abbrev pub input_fields : Kit → List Input → ℕ → Input → List Field
+input_fields kit inputs i x = each x.object.fields (λ k f. kept_field kit inputs i f)
+
 abbrev pub fields : Kit → List Input → List Field
-fields kit inputs = each inputs (λ i x. each x.object.fields (λ k f.
-    only_if (is_kept kit inputs i f.section && not (f.kind == 0)) (record {
-      from = record { input = i; section = f.rela; index = f.index };
-      piece = piece_number kit inputs i f.section;
-      offset = f.offset;
-      kind = f.kind;
-      addend = f.addend;
-      target = result_unwrap_or (target kit inputs i f.section f.symbol) Zero;
-    })))
+fields kit inputs = each inputs (input_fields kit inputs)
 
 -- The link graph: the pieces, the fields, the entry's target and the inputs' parts. Neither an order nor a gap nor an
 -- address is among its arguments.

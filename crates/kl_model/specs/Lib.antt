@@ -5,7 +5,12 @@ pub mod Names
 pub mod Graphs
 pub mod Line
 pub mod Laid
+pub mod Placed
 pub mod Memory
 pub mod Reaches
 pub mod Carries
+pub mod Orders
+pub mod Fit
+pub mod Faults
+pub mod Simple
 pub mod First

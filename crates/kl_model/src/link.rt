@@ -4,7 +4,8 @@ ghost use Rattle.kl_model.specs.declared.link.LinkFault.TheVariants as fault;
 
 use crate::graph::FieldAt;
 use crate::place::Placement;
-use kl_base::Bytes;
+use kl_base::{Bytes, NoMemory};
+use std::alloc::{AllocError, AllocFailed};
 
 /// The bytes of a symbol's name.
 pub type NameText = Bytes;
@@ -71,10 +72,26 @@ pub enum LinkFault {
     NoMemory,
 }
 
-impl From<kl_base::NoMemory> for LinkFault {
+impl From<NoMemory> for LinkFault {
     ghost from_gives = { λ _ e. e ≡ fault.NoMemory };
 
-    fn from(_: kl_base::NoMemory) -> Self {
+    fn from(_: NoMemory) -> Self {
         LinkFault::NoMemory
+    }
+}
+
+impl<T: Drop> From<AllocFailed<T>> for LinkFault {
+    ghost from_gives = { λ _ e. e ≡ fault.NoMemory };
+
+    fn from(failed: AllocFailed<T>) -> Self {
+        NoMemory::from(failed).into()
+    }
+}
+
+impl From<AllocError> for LinkFault {
+    ghost from_gives = { λ _ e. e ≡ fault.NoMemory };
+
+    fn from(error: AllocError) -> Self {
+        NoMemory::from(error).into()
     }
 }

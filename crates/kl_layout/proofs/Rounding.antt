@@ -1,0 +1,49 @@
+-- Rounding an address up, also one that is kept modulo 2^64.
+use Rattle.std.proofs.Common.{ℕ, ◌≡◌, ◌+◌, ◌-◌, ◌*◌, ◌/◌, ◌%◌, ◌^◌, ◌<◌, ◌≤◌, ◌∙◌, ap, sym, arith}
+use Rattle.std.proofs.Math.Nat.{add-mul-div_right}
+use Rattle.std.proofs.Math.Pow.{pow_mono}
+use Rattle.std.proofs.lemmas.Nat.{div-mul-add, div-add-mod', pow-add}
+use Rattle.kl_model.specs.Laid.{up}
+
+-- a multiple stays
+pub up_multiple : (a n : ℕ) → 0 < n → a % n ≡ 0 → a ≡ up a n
+up_multiple a n h e =
+    let split = div-add-mod' a n in
+    let same : a + n - 1 ≡ a / n * n + (n - 1) = omega arith in
+    let d = div-mul-add (a / n) n (n - 1) (omega arith) in
+    rw (same, d) (omega arith)
+
+-- what is no multiple goes up by what is left to the next
+pub up_between : (a n : ℕ) → 0 < n → 0 < a % n → a % n < n → a + (n - a % n) ≡ up a n
+up_between a n h r below =
+    let split = div-add-mod' a n in
+    let same : a + n - 1 ≡ (a / n + 1) * n + (a % n - 1) = omega arith in
+    let d = div-mul-add (a / n + 1) n (a % n - 1) (omega arith) in
+    rw (same, d) (omega arith)
+
+-- a whole number of multiples further on
+pub up_further : (a m n : ℕ) → 0 < n → up (a + m * n) n ≡ up a n + m * n
+up_further a m n h =
+    let same : a + m * n + n - 1 ≡ (a + n - 1) + m * n = omega arith in
+    let d = add-mul-div_right (a + n - 1) m h in
+    rw (same, d) (omega arith)
+
+-- an alignment that divides 2^64 asks the same of an address that is kept modulo 2^64
+pub up_wrapped : (a n q p : ℕ) → 0 < n → q * n ≡ 2 ^ 64 → a % 2 ^ 64 + p ≡ up (a % 2 ^ 64) n → a + p ≡ up a n
+up_wrapped a n q p h whole e =
+    let split = div-add-mod' a (2 ^ 64) in
+    let times : a / 2 ^ 64 * q * n ≡ a / 2 ^ 64 * 2 ^ 64 = grind (arith, whole) in
+    let sum : a % 2 ^ 64 + a / 2 ^ 64 * q * n ≡ a = omega arith in
+    let further = up_further (a % 2 ^ 64) (a / 2 ^ 64 * q) n h in
+    sym (ap (λ x. up x n) (sym sum) ∙ (further ∙ omega arith))
+
+-- a small power of two is positive, divides 2^64 and is at most 2^21
+pub power_divides : (k : ℕ) → k ≤ 21 → 2 ^ (64 - k) * 2 ^ k ≡ 2 ^ 64
+power_divides k h = let e : 64 - k + k ≡ 64 = omega arith in sym (pow-add 2 (64 - k) k) ∙ ap (λ n. 2 ^ n) e
+
+pub power_small : (k : ℕ) → k ≤ 21 → 2 ^ k ≤ 2097152
+power_small k h = pow_mono h
+
+-- the next page from a page's address on
+pub up_page_from : (from size m : ℕ) → 4096 * m ≡ from → up (from + size) 4096 ≡ from + up size 4096
+up_page_from from size m e = omega arith

@@ -1,0 +1,11 @@
+use Rattle.std.proofs.Common.{ℕ, ◌≡◌, ◌<◌, ◌++◌, length, get_or, drop, []}
+use Rattle.kl_model.specs.Lists.{each_from}
+use Rattle.kl_layout.specs.TextLine.{text_part, text_of}
+use Rattle.kl_layout.proofs.line.parts_by_input.Given as goal
+
+-- the parts so far of each input and those of the pieces that are left are all of its parts
+abbrev pub invariant-loop-number : goal.invariant-loop-number
+invariant-loop-number l = record {
+  count : length l.lists.items ≡ length l.graph.parts;
+  parts : (i : ℕ) → i < length l.graph.parts → get_or l.lists.items i [] ++ each_from l.number (text_part i) (drop l.number l.graph.pieces) ≡ text_of l.graph i;
+}

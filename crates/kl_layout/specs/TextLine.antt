@@ -1,0 +1,62 @@
+-- What stands in text, in order: the ordinary pieces of each input, by the sequence of the inputs.
+use Rattle.std.specs.Prelude.{ℕ, ◌%◌, ◌^◌, ◌≡◌, ◌<◌, ◌≤◌, ◌&&◌, ◌==◌, List, [], ◌∷◌, ◌++◌, map, flat_map, slice_index, replicate, unwrap_or}
+use Rattle.std.specs.List.{IsDistinct}
+use Rattle.kl_base.specs.declared.class.Class.TheVariants.{Text}
+use Rattle.kl_model.specs.Lists.{only_if}
+use Rattle.kl_model.specs.Kept.{same_class}
+use Rattle.kl_model.specs.Fit.{size_limit}
+use Rattle.kl_model.specs.Line.{piece_part, is_of_input, inputs_in, of_input}
+use Rattle.kl_model.specs.Laid.{up, page, reach}
+use Rattle.kl_model.specs.Placed.{same_body, stop_of, first_stop}
+use Rattle.kl_model.specs.declared.object.Part.TheVariants.{Head, Drawn, Tail}
+use Rattle.kl_model.specs.declared.graph.Piece.{Piece}
+use Rattle.kl_model.specs.declared.graph.Graph.{Graph}
+use Rattle.kl_model.specs.declared.place.Body.TheVariants as body
+use Rattle.kl_model.specs.declared.place.LinePart.{LinePart}
+use Rattle.kl_model.specs.declared.place.AreaAt.{AreaAt}
+use Rattle.kl_model.specs.declared.place.Placed.{Placed}
+
+-- the inputs in the order in which they stand: head inputs, drawn inputs in a given order, tail inputs
+abbrev pub input_sequence : Graph → List ℕ → List ℕ
+input_sequence g order = inputs_in g Head ++ (map (slice_index (inputs_in g Drawn)) order ++ inputs_in g Tail)
+
+-- piece n as a part, where it is an ordinary piece of text of input i
+abbrev pub text_part : ℕ → ℕ → Piece → List LinePart
+text_part i n x = only_if (is_of_input i x.id && (same_class x.class Text && (x.area == 0))) (piece_part n x)
+
+-- the ordinary pieces of text of an input
+abbrev pub text_of : Graph → ℕ → List LinePart
+text_of g i = of_input g Text 0 i
+
+abbrev pub text_line : Graph → List ℕ → List LinePart
+text_line g order = flat_map (text_of g) (input_sequence g order)
+
+-- a part is one of so many pieces, and its size and its alignment are those of a piece
+pub record IsPiecePart (count : ℕ) (x : LinePart) : Type 0 where
+  pub number : ℕ
+  pub piece : x.body ≡ body.Piece number
+  pub known : number < count
+  pub size : x.size ≤ size_limit
+  pub align : (k : ℕ) × (k ≤ 21) × (x.align ≡ 2 ^ k)
+
+-- no body stands twice
+abbrev pub AreOnce : List LinePart → Type 0
+AreOnce parts = IsDistinct (λ x y. same_body x.body y.body) parts
+
+-- the address of piece n among parts that are laid from an address on, kept modulo 2^64; 0 where it isn't there
+abbrev pub address_in : ℕ → List LinePart → ℕ → ℕ
+address_in from parts n = unwrap_or (stop_of (body.Piece n) from parts) 0 % 2 ^ 64
+
+-- a piece at the address that addresses by number give
+abbrev pub piece_at_address : List ℕ → ℕ → Piece → List Placed
+piece_at_address addresses n x = record { id = x.id; address = slice_index addresses n; size = x.size } ∷ []
+
+-- The areas by number where text alone has parts, which are laid from an address on: `init`, `fini` and `stubs` (4 to 6) are
+-- empty at its end, all others on the next page. Each address is kept modulo 2^64.
+abbrev pub text_areas : ℕ → List LinePart → List AreaAt
+text_areas from parts =
+    let start = first_stop from parts % 2 ^ 64 in
+    let end = reach from parts % 2 ^ 64 in
+    let next = up (reach from parts) page % 2 ^ 64 in
+    record { start = start; end = end } ∷ (replicate 3 (record { start = next; end = next })
+    ++ (replicate 3 (record { start = end; end = end }) ++ replicate 8 (record { start = next; end = next })))

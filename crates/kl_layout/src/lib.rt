@@ -1,0 +1,10 @@
+//! Lays a link graph out: the address of each piece, and where each class and area starts and ends.
+#![tactic(auto)]
+
+mod fault;
+mod line;
+mod placement;
+mod stops;
+
+pub use fault::LayoutFault;
+pub use placement::place;

@@ -1,0 +1,9 @@
+pub mod SimpleKits
+pub mod PieceNumbers
+pub mod PieceSteps
+pub mod Doubles
+pub mod Definitions
+pub mod IndexSteps
+pub mod SimpleNames
+pub mod FieldTargets
+pub mod ResolveFaults
