@@ -8,3 +8,8 @@ pub mod Allocated
 pub mod Grouping
 pub mod Symbols
 pub mod Whole
+pub mod Powers
+pub mod FitSections
+pub mod FitSymbols
+pub mod FitFields
+pub mod Fits

@@ -6,6 +6,7 @@ use Rattle.std.proofs.lemmas.Bool.{ltb-true, eqb-false}
 use Rattle.kl_elf.specs.Records.{sym_at}
 use Rattle.kl_elf.specs.declared.records.Sym.{Sym}
 use Rattle.kl_model.specs.Kept.{no_symbol}
+use Rattle.kl_model.specs.declared.object.Symbol.{Symbol}
 use Rattle.kl_rel.specs.Flaws.{first_of}
 use Rattle.kl_rel.specs.Headers.{head, string_in}
 use Rattle.kl_rel.specs.Sections.{section_of, sections_in}
@@ -38,17 +39,17 @@ symbols-length b = go (symbol_count b == 0) refl
         let long = made-length (symbol_of b) 1 (symbol_count b - 1) in
         rw long (omega (arith, apart))
 
-pub symbol-at : (b : List ℕ) (k : ℕ) → 1 ≤ k → k < symbol_count b → get_or (symbols_in b) k no_symbol ≡ symbol_of b k
+pub symbol-at : (b : List ℕ) (k : ℕ) (d : Symbol) → 1 ≤ k → k < symbol_count b → get_or (symbols_in b) k d ≡ symbol_of b k
 unfolding symbols_in
-symbol-at b k low high =
+symbol-at b k d low high =
     let some : (symbol_count b == 0) ≡ false = ne_eqb (symbol_count b) 0 (omega arith) in
     let e : k ≡ suc (k - 1) = omega arith in
-    let at = made-at (symbol_of b) 1 (symbol_count b - 1) (k - 1) no_symbol (omega arith) in
+    let at = made-at (symbol_of b) 1 (symbol_count b - 1) (k - 1) d (omega arith) in
     let f : 1 + (k - 1) ≡ k = omega arith in
     rw some (tail k (k - 1) e (rw f at at))
   where
-    tail : (j i : ℕ) → j ≡ suc i → get_or (map (symbol_of b) (range_with_len 1 (symbol_count b - 1))) i no_symbol ≡ symbol_of b k
-        → get_or (no_symbol ∷ map (symbol_of b) (range_with_len 1 (symbol_count b - 1))) j no_symbol ≡ symbol_of b k
+    tail : (j i : ℕ) → j ≡ suc i → get_or (map (symbol_of b) (range_with_len 1 (symbol_count b - 1))) i d ≡ symbol_of b k
+        → get_or (no_symbol ∷ map (symbol_of b) (range_with_len 1 (symbol_count b - 1))) j d ≡ symbol_of b k
     tail j i e at = rw e at
 
 -- the checks of a symbol find nothing
@@ -91,6 +92,6 @@ symbol_below b k e low high is = section_below (head b).shnum (sym_at b (symbol_
 pub symbol_fits : (b : List ℕ) (k : ℕ) → symbols_flaw b ≡ None → 1 ≤ k → k < symbol_count b
     → IsTrue (is_in_section (get_or (symbols_in b) k no_symbol).section) → (get_or (symbols_in b) k no_symbol).section ≤ length (sections_in b)
 symbol_fits b k e low high =
-    let at = symbol-at b k low high in
+    let at = symbol-at b k no_symbol low high in
     let below = symbol_below b k e low high in
     rw (at, sections-length b) (λ is. let under = below is in omega (arith, under))

@@ -1,7 +1,9 @@
 //! Reads an ELF64 relocatable object: what stands in its bytes, or its first flaw.
 #![tactic(auto)]
 
-ghost use Rattle.std.specs.Prelude.{◌≡◌, ◌≤◌, length, IfOk, OnOk, IfErr, None};
+ghost use Rattle.std.specs.Prelude.{◌≡◌, ◌≤◌, ◌<◌, length, IfOk, OnOk, IfErr, None};
+ghost use Rattle.kl_model.specs.Fit.{IsFit};
+ghost use Rattle.kl_model.specs.declared.object.Input.{Input};
 ghost use Rattle.kl_rel.specs.Flaws.{IsAnswer};
 ghost use Rattle.kl_rel.specs.Objects.{flaw, object};
 
@@ -33,6 +35,7 @@ pub fn read_object(alloc: Global, bytes: &[u8]) -> Result<Object, ReadError>
     ensures object { IfOk result (λ o. o ≡ object bytes.now) }
     ensures sound { OnOk result (flaw bytes.now ≡ None) }
     ensures flaw { IfErr result (IsAnswer (flaw bytes.now)) }
+    ensures fit { IfOk result (λ o. (x : Input) → x.bytes ≡ bytes.now → x.object ≡ o → 0 < length o.symbols → IsFit x) }
 {
     let table = read_table(bytes)?;
     check_ranges(bytes, &table)?;
