@@ -1,6 +1,6 @@
 -- The fields of a file without a flaw are fit to be linked.
-use Rattle.std.proofs.Common.{ℕ, zero, suc, ◌≡◌, ◌≢◌, ◌+◌, ◌-◌, ◌*◌, ◌/◌, ◌<◌, ◌≤◌, ◌^◌, ◌∙◌, ◌⊎◌, inl, inr, Bool, true, false, cond, not, ◌&&◌, ◌||◌, List, [], ◌∷◌, ◌++◌, length, get_or, map, refl, ap, sym, arith, eqb-true, eq-eqb, le-leb, lt-ltb}
-use Rattle.std.specs.Prelude.{Option, Some, None, ◌==◌, nat_lt, nat_le, All, AllPairs, flat_map}
+use Rattle.std.proofs.Common.{ℕ, zero, suc, ◌≡◌, ◌≢◌, ◌+◌, ◌-◌, ◌/◌, ◌<◌, ◌≤◌, ◌∙◌, inl, inr, Bool, true, false, cond, ◌&&◌, List, [], ◌∷◌, length, get_or, map, refl, sym, arith, eq-eqb, le-leb, lt-ltb}
+use Rattle.std.specs.Prelude.{None, ◌==◌, nat_lt, nat_le, All, AllPairs, flat_map}
 use Rattle.std.specs.List.{list_any, range_with_len}
 use Rattle.std.proofs.lemmas.Bool.{ltb-false, leb-false, eqb-false}
 use Rattle.std.proofs.lemmas.List.Elements.{All-append}
@@ -8,17 +8,15 @@ use Rattle.std.proofs.lemmas.List.Folds.{list_any_at}
 use Rattle.std.proofs.lemmas.List.FromFn.{length-range_with_len, get_or-range_with_len}
 use Rattle.std.proofs.lemmas.List.Quantifiers.{all_pairs_push}
 use Rattle.kl_le.specs.Bytes.{Within}
-use Rattle.kl_elf.specs.declared.records.Shdr.{Shdr}
 use Rattle.kl_model.specs.Kept.{no_section}
 use Rattle.kl_model.specs.Reaches.{width}
 use Rattle.kl_model.specs.Fit.{IsSectionNumber, IsFitField, ShareNoByte, ComesBefore, section_in}
-use Rattle.kl_model.specs.declared.object.Object.{Object}
 use Rattle.kl_model.specs.declared.object.RawField.{RawField}
 use Rattle.kl_rel.specs.Flaws.{first_of}
 use Rattle.kl_rel.specs.Headers.{head, header_place, section, numbers}
 use Rattle.kl_rel.specs.Sections.{is_allocated, sections_in, section_of, listed_section}
-use Rattle.kl_rel.specs.SymbolTables.{symbol_count, symbols_in}
-use Rattle.kl_rel.specs.Relocations.{is_rela, is_read, rela_checks, rela_flaw_of, relocations_flaw, entries_flaw, entry_checks, entry_flaw_of, entry_place, field_of, fields_of, fields_before, fields_in, is_byte_of, is_taken, shares_byte}
+use Rattle.kl_rel.specs.SymbolTables.{symbol_count}
+use Rattle.kl_rel.specs.Relocations.{is_read, rela_checks, rela_flaw_of, relocations_flaw, entries_flaw, entry_checks, entry_flaw_of, entry_place, field_of, fields_of, fields_before, fields_in, is_byte_of, is_taken, shares_byte}
 use Rattle.kl_rel.specs.Objects.{object}
 use Rattle.kl_rel.specs.declared.fault.ReadKind.TheVariants.{RelaLink, RelaPlace, FieldOverlap}
 use Rattle.kl_rel.proofs.Places.{none_in, none_at, none_first, none_rest, not_stands, section_where, IsNumber}
@@ -76,26 +74,31 @@ field_is_fit b n k e low high is h = record {
   where
     target : IsNumber b (section b n).info
     target = section_where b (section b n).info is_allocated refl (target_allocated b n is)
+
     checks : first_of (entry_checks (symbol_count b) (section b (section b n).info).size (fields_before b n k) (entry_place b n k) (field_of b n k)) ≡ None
     checks = entry_passes b n k e low high is h
+
     symbol : (field_of b n k).symbol < symbol_count b
     symbol =
         let none = not_stands (nat_le (symbol_count b) (field_of b n k).symbol) RelaLink (entry_place b n k + 8)
-            (none_in (entry_checks (symbol_count b) (section b (section b n).info).size (fields_before b n k) (entry_place b n k) (field_of b n k)) 0 checks) in
+        (none_in (entry_checks (symbol_count b) (section b (section b n).info).size (fields_before b n k) (entry_place b n k) (field_of b n k)) 0 checks) in
         leb-false (symbol_count b) (field_of b n k).symbol none
+
     inside : (field_of b n k).offset + width (field_of b n k).kind ≤ (section b (section b n).info).size
     inside =
         let none = not_stands (nat_lt (section b (section b n).info).size ((field_of b n k).offset + width (field_of b n k).kind)) RelaPlace (entry_place b n k)
-            (none_in (entry_checks (symbol_count b) (section b (section b n).info).size (fields_before b n k) (entry_place b n k) (field_of b n k)) 1 checks) in
+        (none_in (entry_checks (symbol_count b) (section b (section b n).info).size (fields_before b n k) (entry_place b n k) (field_of b n k)) 1 checks) in
         ltb-false (section b (section b n).info).size ((field_of b n k).offset + width (field_of b n k).kind) none
+
     second : (x y : Bool) → x ≡ true → (x && y) ≡ false → y ≡ false
     second true y ex e = e
     second false y ex e = cc
+
     bytes : (section b (section b n).info).kind ≢ 8
     bytes =
         let form = none_first (first_of (rela_checks b (header_place b n) (section b n))) _ (rela_passes b n e low high) in
         let none = not_stands (is_read b (section b n) && ((section b (section b n).info).kind == 8)) RelaLink (header_place b n + 44)
-            (none_in (rela_checks b (header_place b n) (section b n)) 2 form) in
+        (none_in (rela_checks b (header_place b n) (section b n)) 2 form) in
         eqb-false (section b (section b n).info).kind 8 (second (is_read b (section b n)) ((section b (section b n).info).kind == 8) is none)
 
 pub fields_are_fit : (b : List ℕ) → relocations_flaw b ≡ None → All (IsFitField (object b)) (fields_in b)
@@ -118,6 +121,7 @@ apart fields h i d none short = λ same q first second.
   where
     covers : (f : RawField) (s q : ℕ) → f.section ≡ s → Within f.offset (width f.kind) q → is_byte_of s q f ≡ true
     covers f s q same in_f = rw (eq-eqb f.section s same, le-leb f.offset q in_f.0, lt-ltb q (f.offset + width f.kind) in_f.1) refl
+
     in_range : (a n q : ℕ) → a ≤ q → q < a + n → is_taken fields h.section q ≡ true → list_any (is_taken fields h.section) (range_with_len a n) ≡ true
     in_range a n q low high taken =
         let e : a + (q - a) ≡ q = omega arith in

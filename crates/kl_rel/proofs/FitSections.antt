@@ -1,16 +1,15 @@
 -- The sections of a file without a flaw are fit to be linked.
 use Rattle.std.proofs.Common.{ℕ, zero, suc, ◌≡◌, ◌≢◌, ◌+◌, ◌-◌, ◌*◌, ◌<◌, ◌≤◌, ◌^◌, ◌∙◌, ◌⊎◌, inl, inr, Bool, true, false, cond, not, ◌&&◌, ◌||◌, List, [], ◌∷◌, length, get_or, take, drop, map, refl, ap, sym, arith, eqb-true, ne_eqb, length-drop}
-use Rattle.std.specs.Prelude.{Option, Some, None, ◌==◌, nat_lt, nat_le, unwrap_or, is_none, All}
+use Rattle.std.specs.Prelude.{Option, Some, None, ◌==◌, unwrap_or, is_none, All}
 use Rattle.std.specs.List.{range_with_len}
 use Rattle.std.proofs.lemmas.Bool.{eqb-false}
 use Rattle.std.proofs.lemmas.List.{length-take, get_or-take}
 use Rattle.std.proofs.lemmas.List.Sums.{fails_before_first}
 use Rattle.kl_base.specs.declared.class.Range.{Range}
 use Rattle.kl_elf.specs.declared.records.Shdr.{Shdr}
-use Rattle.kl_model.specs.Texts.{text_at, has}
+use Rattle.kl_model.specs.Texts.{has}
 use Rattle.kl_model.specs.Fit.{IsName, IsAlignment, IsFitAllocated, IsFitSection}
-use Rattle.kl_model.specs.declared.object.Section.{Section}
-use Rattle.kl_rel.specs.Flaws.{first_of, flaw_if}
+use Rattle.kl_rel.specs.Flaws.{first_of}
 use Rattle.kl_rel.specs.Headers.{head, header_place, section, has_bytes, string_in, table_checks, ranges_flaw}
 use Rattle.kl_rel.specs.Sections.{no_name, section_name, names, is_allocated, is_linked_type, is_alignment, flags_checks, form_checks, section_checks, sections_flaw, sections_in, section_of, listed_section}
 use Rattle.kl_rel.specs.declared.fault.Feature.TheVariants.{WriteExecute, SectionType}
@@ -50,7 +49,7 @@ pub section_is_named : (b : List ℕ) (n : ℕ) → first_of (table_checks b) �
 unfolding section_checks listed_section
 section_is_named b n table ranges e low high =
     let none = not_stands (is_none (section_name b (names b) (section b n))) NameRange (header_place b n)
-        (none_in (section_checks b (names b) (header_place b n) (section b n)) 0 (section_passes b n e low high)) in
+    (none_in (section_checks b (names b) (header_place b n) (section b n)) 0 (section_passes b n e low high)) in
     go (section_name b (names b) (section b n)) refl none
   where
     go : (o : Option Range) → section_name b (names b) (section b n) ≡ o → is_none o ≡ false → IsName b (unwrap_or o no_name)
@@ -73,24 +72,30 @@ section_is_fit b n ranges e is = record {
   where
     form : first_of (form_checks b (header_place b n) (unwrap_or (section_name b (names b) (section b n)) no_name) (section b n)) ≡ None
     form = form_passes b n e is
+
     linked_type : is_linked_type (section b n).kind ≡ true
     linked_type = not_false (is_linked_type (section b n).kind) (not_stands (not (is_linked_type (section b n).kind)) (Unsupported SectionType) (header_place b n + 4)
         (none_in (form_checks b (header_place b n) (unwrap_or (section_name b (names b) (section b n)) no_name) (section b n)) 0 form))
+
     alignment : (not ((section b n).addralign == 0) && not (is_alignment (section b n).addralign)) ≡ false
     alignment = not_stands (not ((section b n).addralign == 0) && not (is_alignment (section b n).addralign)) Align (header_place b n + 48)
         (none_in (form_checks b (header_place b n) (unwrap_or (section_name b (names b) (section b n)) no_name) (section b n)) 2 form)
+
     permission : (has (section b n).flags 1 && has (section b n).flags 4) ≡ false
     permission = not_stands (has (section b n).flags 1 && has (section b n).flags 4) (Unsupported WriteExecute) (header_place b n + 8)
         (none_in (flags_checks (header_place b n) (section b n)) 2 (flags_passes b n e is))
+
     linked : (section b n).kind ≢ 8 → has_bytes (section b n) ≡ true
     linked bits = with_bytes ((section b n).kind == 0) refl
       where
         with_bytes : (x : Bool) → ((section b n).kind == 0) ≡ x → (not x && not ((section b n).kind == 8)) ≡ true
         with_bytes true ex = let none = rw (eqb-true (section b n).kind 0 ex) at linked_type in cc
         with_bytes false ex = rw (ne_eqb (section b n).kind 8 bits) refl
+
     second : (x y : Bool) → x ≡ true → (x && y) ≡ false → y ≡ false
     second true y ex e = e
     second false y ex e = cc
+
     aligned : (x : Bool) → ((section b n).addralign == 0) ≡ x → (y : Bool) → is_alignment (section b n).addralign ≡ y → (not x && not y) ≡ false → IsAlignment (section b n).addralign
     aligned true ex y ey none = inl (eqb-true (section b n).addralign 0 ex)
     aligned false ex true ey none = power_alignment (section b n).addralign ey

@@ -1,7 +1,7 @@
 -- The symbols of a file without a flaw are fit to be linked.
-use Rattle.std.proofs.Common.{ℕ, zero, suc, ◌≡◌, ◌≢◌, ◌+◌, ◌-◌, ◌*◌, ◌/◌, ◌%◌, ◌<◌, ◌≤◌, ◌^◌, ◌∙◌, ◌⊎◌, inl, inr, Bool, true, false, cond, not, ◌&&◌, ◌||◌, List, [], ◌∷◌, length, get_or, map, refl, ap, sym, arith, eqb-true, eq-eqb, ne_eqb}
-use Rattle.std.specs.Prelude.{Option, Some, None, ◌==◌, nat_lt, nat_le, unwrap_or, is_none, All}
-use Rattle.std.specs.List.{range_with_len, AllWithin}
+use Rattle.std.proofs.Common.{ℕ, zero, suc, ◌≡◌, ◌≢◌, ◌+◌, ◌-◌, ◌<◌, ◌≤◌, ◌^◌, ◌⊎◌, inl, inr, Bool, true, false, cond, not, ◌&&◌, ◌||◌, List, [], ◌∷◌, length, get_or, map, refl, arith, eqb-true, eq-eqb, ne_eqb}
+use Rattle.std.specs.Prelude.{Option, Some, None, ◌==◌, nat_lt, unwrap_or, is_none, All}
+use Rattle.std.specs.List.{range_with_len}
 use Rattle.std.proofs.lemmas.Bool.{eqb-false, ltb-false, ltb-true, leb-false, lt-leb}
 use Rattle.std.proofs.lemmas.List.Elements.{All-cons}
 use Rattle.kl_base.specs.declared.class.Range.{Range}
@@ -10,15 +10,15 @@ use Rattle.kl_elf.specs.declared.records.Sym.{Sym}
 use Rattle.kl_model.specs.Kept.{no_symbol}
 use Rattle.kl_model.specs.Fit.{IsName, IsAlignment, IsFitSymbol, AreFitSymbols}
 use Rattle.kl_model.specs.declared.object.Symbol.{Symbol}
-use Rattle.kl_rel.specs.Flaws.{first_of, flaw_if}
-use Rattle.kl_rel.specs.Headers.{head, section, string_in, ranges_flaw}
+use Rattle.kl_rel.specs.Flaws.{first_of}
+use Rattle.kl_rel.specs.Headers.{head, string_in, ranges_flaw}
 use Rattle.kl_rel.specs.Sections.{no_name, is_alignment, is_too_large, sections_in}
-use Rattle.kl_rel.specs.SymbolTables.{symbol_table, symbol_count, symbol_place, strings, symbol_in, symbol_of, symbol_table_checks, symbol_form_checks, symbol_place_checks, symbols_flaw, symbols_in, has_section, is_reserved, is_in_section, is_common, is_undefined, is_local, is_unnamed, is_empty, binding, kind}
+use Rattle.kl_rel.specs.SymbolTables.{symbol_table, symbol_count, symbol_place, strings, symbol_in, symbol_of, symbol_table_checks, symbol_form_checks, symbol_place_checks, symbols_flaw, symbols_in, has_section, is_reserved, is_in_section, is_common, is_undefined, is_local, is_unnamed, is_empty, binding}
 use Rattle.kl_rel.specs.declared.fault.Feature.TheVariants.{Binding}
 use Rattle.kl_rel.specs.declared.fault.ReadKind.TheVariants.{Unsupported, NameRange, Align, SymbolSection}
 use Rattle.kl_rel.proofs.Places.{none_in, not_stands, not_false}
 use Rattle.kl_rel.proofs.Tables.{strings_lie}
-use Rattle.kl_rel.proofs.Symbols.{symbol-at, symbols-length, sections-length, form_passes, place_passes, section_known}
+use Rattle.kl_rel.proofs.Symbols.{symbol-at, symbols-length, sections-length, form_passes, place_passes}
 use Rattle.kl_rel.proofs.Powers.{power_alignment}
 use Rattle.kl_rel.proofs.FitSections.{all_made, empty_name, string_name}
 
@@ -92,17 +92,22 @@ symbol_is_fit b count k ec some ranges form e low high = record {
   where
     y : Sym
     y = sym_at b (symbol_place b k)
+
     placed : IsPlaced (head b).shnum (sym_at b (symbol_place b k))
     placed = placed_of (head b).shnum (symbol_place b k) (sym_at b (symbol_place b k)) (place_passes b k e low high)
+
     formed : IsFormed (string_in b (strings b) (sym_at b (symbol_place b k)).name) (sym_at b (symbol_place b k))
     formed = formed_of (string_in b (strings b) (sym_at b (symbol_place b k)).name) (nat_lt k (symbol_table b).info) (symbol_place b k) (sym_at b (symbol_place b k)) (form_passes b k e low high)
+
     named : (o : Option Range) → string_in b (strings b) (sym_at b (symbol_place b k)).name ≡ o → is_none o ≡ false → IsName b (unwrap_or o no_name)
     named None at none = cc
     named (Some r) at none =
         let several : (symbol_count b == 0) ≡ false = ne_eqb (symbol_count b) 0 (omega arith) in
         string_name b (strings b) (sym_at b (symbol_place b k)).name r at (strings_lie b ranges form several)
+
     in_section : 0 < (sym_at b (symbol_place b k)).shndx → (sym_at b (symbol_place b k)).shndx < 0xff00 → is_in_section (sym_at b (symbol_place b k)).shndx ≡ true
     in_section above below = rw (ne_eqb (sym_at b (symbol_place b k)).shndx 0 (omega arith), lt-leb 0xff00 (sym_at b (symbol_place b k)).shndx below) refl
+
     aligned : (sym_at b (symbol_place b k)).shndx ≡ 0xfff2 → IsAlignment (sym_at b (symbol_place b k)).value
     aligned common = power_alignment (sym_at b (symbol_place b k)).value (not_false (is_alignment (sym_at b (symbol_place b k)).value) (second (is_common (sym_at b (symbol_place b k))) (not (is_alignment (sym_at b (symbol_place b k)).value)) (eq-eqb (sym_at b (symbol_place b k)).shndx 0xfff2 common) placed.align))
 
@@ -137,13 +142,15 @@ others b k d e low high =
     let short : k < symbol_count b = rw symbols-length at high in
     let placed = placed_of (head b).shnum (symbol_place b k) (sym_at b (symbol_place b k)) (place_passes b k e low short) in
     rw (symbol-at b k d low short) (λ bound.
-    let none = second (is_local (sym_at b (symbol_place b k))) (is_undefined (sym_at b (symbol_place b k)) || is_common (sym_at b (symbol_place b k))) (eq-eqb (binding (sym_at b (symbol_place b k))) 0 bound) placed.here in
-    (eqb-false (sym_at b (symbol_place b k)).shndx 0 (left (is_undefined (sym_at b (symbol_place b k))) (is_common (sym_at b (symbol_place b k))) none),
-    eqb-false (sym_at b (symbol_place b k)).shndx 0xfff2 (right (is_undefined (sym_at b (symbol_place b k))) (is_common (sym_at b (symbol_place b k))) none)))
+    let none = second (is_local (sym_at b (symbol_place b k))) (is_undefined (sym_at b (symbol_place b k)) || is_common (sym_at b (symbol_place b k))) (eq-eqb (binding (sym_at b (symbol_place b k))) 0 bound) placed.here in (
+      eqb-false (sym_at b (symbol_place b k)).shndx 0 (left (is_undefined (sym_at b (symbol_place b k))) (is_common (sym_at b (symbol_place b k))) none),
+      eqb-false (sym_at b (symbol_place b k)).shndx 0xfff2 (right (is_undefined (sym_at b (symbol_place b k))) (is_common (sym_at b (symbol_place b k))) none),
+    ))
   where
     left : (x z : Bool) → (x || z) ≡ false → x ≡ false
     left true z e = cc
     left false z e = refl
+
     right : (x z : Bool) → (x || z) ≡ false → z ≡ false
     right true z e = cc
     right false z e = e

@@ -1,28 +1,24 @@
 -- What stands in a file without a flaw is fit to be linked.
-use Rattle.std.proofs.Common.{ℕ, zero, suc, ◌≡◌, ◌≢◌, ◌+◌, ◌-◌, ◌*◌, ◌/◌, ◌<◌, ◌≤◌, ◌∙◌, Bool, true, false, cond, not, ◌&&◌, ◌||◌, List, [], ◌∷◌, length, get_or, map, refl, ap, sym, arith, eqb-true}
-use Rattle.std.specs.Prelude.{Option, Some, None, ◌==◌, nat_le, All}
-use Rattle.std.specs.List.{range_with_len}
+use Rattle.std.proofs.Common.{ℕ, zero, suc, ◌≡◌, ◌+◌, ◌-◌, ◌/◌, ◌<◌, ◌≤◌, Bool, true, false, cond, not, ◌&&◌, ◌||◌, List, [], ◌∷◌, length, get_or, refl, sym, arith}
+use Rattle.std.specs.Prelude.{Option, None, ◌==◌, nat_le, All}
 use Rattle.std.proofs.lemmas.Bool.{leb-false, eqb-false}
-use Rattle.kl_base.specs.declared.class.Range.{Range}
 use Rattle.kl_model.specs.Kept.{no_section, no_symbol}
 use Rattle.kl_model.specs.Lists.{number_in}
-use Rattle.kl_model.specs.Fit.{IsName, IsFitSection, IsFitSymbol, IsSectionNumber, IsFitGroup, IsFit}
-use Rattle.kl_model.specs.declared.object.Object.{Object}
-use Rattle.kl_model.specs.declared.object.Symbol.{Symbol}
+use Rattle.kl_model.specs.Fit.{IsName, IsSectionNumber, IsFitGroup, IsFit}
 use Rattle.kl_model.specs.declared.object.Input.{Input}
 use Rattle.kl_model.specs.declared.object.Group.{Group}
-use Rattle.kl_rel.specs.Flaws.{first_of, flaw_if}
+use Rattle.kl_rel.specs.Flaws.{first_of}
 use Rattle.kl_rel.specs.Headers.{head, head_flaw, header_place, section, table_checks, ranges_flaw}
 use Rattle.kl_rel.specs.Sections.{sections_in, sections_flaw}
 use Rattle.kl_rel.specs.SymbolTables.{symbol_count, symbol_table_checks, symbols_flaw, symbols_in, is_in_section, is_reserved}
 use Rattle.kl_rel.specs.Relocations.{relocations_flaw}
-use Rattle.kl_rel.specs.SectionGroups.{word, word_place, member_places, members, members_before, member_flaw, member_flaw_of, members_flaw, is_group, group_form_checks, group_checks, group_flaw_of, groups_flaw, group_of, groups_at, groups_in, signature}
+use Rattle.kl_rel.specs.SectionGroups.{word, word_place, members, members_before, member_flaw, member_flaw_of, members_flaw, is_group, group_checks, group_flaw_of, groups_flaw, group_of, groups_at, groups_in, signature}
 use Rattle.kl_rel.specs.Objects.{object, flaw}
 use Rattle.kl_rel.specs.declared.fault.ReadFault.{ReadFault}
 use Rattle.kl_rel.specs.declared.fault.ReadKind.TheVariants.{SectionTable, GroupForm}
 use Rattle.kl_rel.proofs.Places.{none_in, none_at, not_stands}
 use Rattle.kl_rel.proofs.Symbols.{symbols-length, sections-length, symbol_fits}
-use Rattle.kl_rel.proofs.Grouping.{form_of, IsForm}
+use Rattle.kl_rel.proofs.Grouping.{form_of}
 use Rattle.kl_rel.proofs.FitSections.{all_made, sections_are_fit}
 use Rattle.kl_rel.proofs.FitSymbols.{symbols_are_fit, all_fit}
 use Rattle.kl_rel.proofs.FitFields.{all_over, number_of, fields_are_fit, fields_are_apart, fields_ascend}
@@ -53,6 +49,7 @@ is_sound b e = record {
   where
     parts : List ℕ → List (Option ReadFault)
     parts b = head_flaw b ∷ first_of (table_checks b) ∷ ranges_flaw b ∷ sections_flaw b ∷ first_of (symbol_table_checks b) ∷ symbols_flaw b ∷ relocations_flaw b ∷ groups_flaw b ∷ []
+
     some : first_of (table_checks b) ≡ None → 0 < (head b).shnum
     some none =
         let apart = eqb-false (head b).shnum 0 (not_stands ((head b).shnum == 0) SectionTable 60 (none_in (table_checks b) 2 none)) in
@@ -71,6 +68,7 @@ signature_is_name b k s low high = go ((get_or (symbols_in b) k no_symbol).kind 
     named =
         let all = all_fit b (length (sections_in b)) (sections-length b) s.some s.ranges s.form s.symbols in
         (all k no_symbol (rw symbols-length high)).name
+
     go : (x y : Bool) → is_in_section (get_or (symbols_in b) k no_symbol).section ≡ y
         → IsName b (cond (x && y) (get_or (sections_in b) ((get_or (symbols_in b) k no_symbol).section - 1) no_section).name (get_or (symbols_in b) k no_symbol).name)
     go false y ey = named

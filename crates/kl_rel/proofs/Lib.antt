@@ -13,3 +13,4 @@ pub mod FitSections
 pub mod FitSymbols
 pub mod FitFields
 pub mod Fits
+mod Examples
