@@ -61,10 +61,11 @@ pub record IsTable (b : List ℕ) (t : Table) : Type 0 where
   pub some : 0 < t.count
   pub lies : t.place + 64 * t.count ≤ length b
 
--- the bytes of a section, but of SHT_NULL (0) and SHT_NOBITS (8), lie in the file; the header stands at a place
+-- a section has bytes in the file, but one of SHT_NULL (0) or SHT_NOBITS (8)
 abbrev pub has_bytes : Shdr → Bool
 has_bytes s = not (s.kind == 0) && not (s.kind == 8)
 
+-- the bytes of a section, whose header stands at this place, lie in the file
 unfoldable pub range_flaw : List ℕ → ℕ → Shdr → Option ReadFault
 range_flaw b place s = flaw_if (has_bytes s && nat_lt (length b) (s.offset + s.size)) SectionRange (place + 24)
 
@@ -72,6 +73,7 @@ range_flaw b place s = flaw_if (has_bytes s && nat_lt (length b) (s.offset + s.s
 abbrev pub range_flaw_of : List ℕ → ℕ → Option ReadFault
 range_flaw_of b n = range_flaw b (header_place b n) (section b n)
 
+-- the first section whose bytes don't
 unfoldable pub ranges_flaw : List ℕ → Option ReadFault
 ranges_flaw b = first_of (map (range_flaw_of b) (numbers b))
 

@@ -64,6 +64,7 @@ fields_before b n k = flat_map (fields_of b) (range_with_len 1 (n - 1)) ++ map (
 abbrev pub is_byte_of : ℕ → ℕ → RawField → Bool
 is_byte_of s x f = (f.section == s) && nat_le f.offset x && nat_lt x (f.offset + width f.kind)
 
+-- or one of several fields'
 abbrev pub is_taken : List RawField → ℕ → ℕ → Bool
 is_taken fields s x = list_any (is_byte_of s x) fields
 

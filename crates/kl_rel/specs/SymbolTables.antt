@@ -46,6 +46,7 @@ table_form_checks b place s =
     ∷ flaw_if (not (is_string_table (section b s.link))) SymbolTable (place + 40)
     ∷ flaw_if ((s.info == 0) || nat_lt (s.size / 24) s.info) SymbolTable (place + 44) ∷ []
 
+-- there is no second symbol table, and the first has its form
 unfoldable pub symbol_table_checks : List ℕ → List (Option ReadFault)
 symbol_table_checks b =
     second_table_flaw b
@@ -83,10 +84,11 @@ is_reserved n = nat_le 0xff00 n
 abbrev pub has_section : ℕ → Sym → Bool
 has_section count y = cond (is_reserved y.shndx) ((y.shndx == 0xfff1) || is_common y) (nat_lt y.shndx count)
 
+-- the number of a section, of those that a symbol can name
 abbrev pub is_in_section : ℕ → Bool
 is_in_section n = not (n == 0) && not (is_reserved n)
 
--- the name ends in the string table, and isn't empty but for LOCAL
+-- a name that doesn't end in the string table, or an empty one of a symbol that isn't LOCAL
 abbrev pub is_empty : Option Range → Bool
 is_empty None = true
 is_empty (Some r) = r.len == 0
@@ -127,10 +129,11 @@ listed_symbol name y = record {
   size = y.size;
 }
 
--- the symbol at a place, whose name stands in this string table; `first` says whether it stands before the end of the LOCAL symbols
+-- the symbol at a place, whose name stands in this string table
 unfoldable pub symbol_in : List ℕ → Shdr → ℕ → Symbol
 symbol_in b table place = listed_symbol (string_in b table (sym_at b place).name) (sym_at b place)
 
+-- its checks in a file of so many sections; `first` says whether it stands before the end of the LOCAL symbols
 unfoldable pub symbol_checks : List ℕ → ℕ → Shdr → Bool → ℕ → List (Option ReadFault)
 symbol_checks b count table first place =
     first_of (symbol_form_checks (string_in b table (sym_at b place).name) first place (sym_at b place))

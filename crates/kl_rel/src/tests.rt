@@ -1,6 +1,7 @@
 use crate::{Feature, ReadError, ReadFault, ReadKind, read_object};
 use kl_base::Range;
 use kl_elf::HeadFault;
+use kl_le::put;
 use kl_model::{RawField, Section, Symbol};
 use std::test::Fail;
 
@@ -315,5 +316,90 @@ fn reads_what_has_no_flaw(rt: HostRuntime) {
     for changes in rows {
         let read = read_object(rt.alloc(), &changed(changes));
         assert!(rt; read.is_ok());
+    }
+}
+
+#[test]
+fn tells_a_header_field_that_is_off(rt: HostRuntime) {
+    let table = |at: u64| Some((ReadKind::SectionTable, at));
+    let range = |at: u64| Some((ReadKind::SectionRange, at));
+    // the flaw where the field is 0, 1, the file's length and 2^64 - 1: `e_shoff`, and then `sh_offset` and `sh_size` of the
+    // text, its relocation section, the symbol table and the group
+    let rows = [
+        (40, [table(62), table(62), table(40), table(40)]),
+        (352, [None, None, range(352), range(352)]),
+        (
+            360,
+            [
+                Some((ReadKind::RelaPlace, 80)),
+                Some((ReadKind::RelaPlace, 80)),
+                range(352),
+                range(352),
+            ],
+        ),
+        (
+            416,
+            [
+                Some((ReadKind::RelaPlace, 0)),
+                Some((ReadKind::RelaLink, 9)),
+                range(416),
+                range(416),
+            ],
+        ),
+        (
+            424,
+            [
+                None,
+                Some((ReadKind::RelaLink, 424)),
+                range(416),
+                range(416),
+            ],
+        ),
+        (
+            480,
+            [
+                Some((ReadKind::SymbolSection, 30)),
+                Some((ReadKind::SymbolSection, 31)),
+                range(480),
+                range(480),
+            ],
+        ),
+        (
+            488,
+            [
+                Some((ReadKind::SymbolTable, 488)),
+                Some((ReadKind::SymbolTable, 488)),
+                range(480),
+                range(480),
+            ],
+        ),
+        (
+            672,
+            [
+                Some((ReadKind::GroupForm, 0)),
+                Some((ReadKind::GroupForm, 1)),
+                range(672),
+                range(672),
+            ],
+        ),
+        (
+            680,
+            [
+                Some((ReadKind::GroupForm, 680)),
+                Some((ReadKind::GroupForm, 680)),
+                range(672),
+                range(672),
+            ],
+        ),
+    ];
+    for (place, flaws) in rows {
+        for (value, flaw) in [0, 1, 712, u64::MAX].iter().zip(flaws) {
+            let mut bytes = OBJECT;
+            assert!(rt; place <= 704);
+            put::<8>(&mut bytes, place, *value);
+            let read = read_object(rt.alloc(), &bytes);
+            let flaw = flaw.map(|(kind, at)| ReadError::Flaw(ReadFault { kind, at }));
+            assert_eq!(rt; read.err(), flaw);
+        }
     }
 }
