@@ -1,6 +1,7 @@
 pub mod Passes
 pub mod Places
 pub mod Strings
+pub mod TextLens
 pub mod Tables
 pub mod Bytes
 pub mod Entries

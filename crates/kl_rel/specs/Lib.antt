@@ -1,5 +1,6 @@
 pub mod Flaws
 pub mod Headers
+pub mod StringTables
 pub mod Sections
 pub mod SymbolTables
 pub mod Relocations

@@ -2,10 +2,11 @@
 ghost use Rattle.std.specs.Prelude.{◌≡◌, ◌+◌, ◌≤◌, ◌<◌, ◌^◌, length, IfOk, OnOk, IfErr, None};
 ghost use Rattle.std.specs.Result.{result_err};
 ghost use Rattle.kl_rel.specs.Flaws.{IsAnswer, first_of};
+ghost use Rattle.kl_rel.specs.StringTables.{IsIndexed};
 ghost use Rattle.kl_rel.specs.Headers.{IsTable, table_checks, ranges_flaw};
 ghost use Rattle.kl_rel.specs.Sections.{section_name, is_linked_type, has_priority, is_alignment, is_too_large, flags_checks, form_checks, section_checks, listed_section, sections_flaw, sections_in};
 
-use crate::string::{string_in, text_at};
+use crate::string::{StringTable, text_at};
 use crate::table::{SHT_NOBITS, SHT_NULL, Table};
 use crate::{Feature, ReadError, ReadFault, ReadKind};
 use kl_base::{Listed, Range};
@@ -60,7 +61,7 @@ pub(crate) fn read_sections(
     ensures sound { OnOk result (sections_flaw bytes.now ≡ None) }
     ensures flaw { IfErr result (IsAnswer (sections_flaw bytes.now)) }
 {
-    let names = table.section(bytes, table.names);
+    let names = StringTable::new(alloc, bytes, &table.section(bytes, table.names))?;
     let mut sections = Listed::new(alloc);
     for number in 1..table.count {
         let header = table.section(bytes, number);
@@ -72,11 +73,17 @@ pub(crate) fn read_sections(
 
 /// Reads a section, whose header stands at `place`.
 #[tactic(auto, unfolding(crate::specs::Sections::section_checks, crate::specs::Sections::listed_section))]
-fn read_section(bytes: &[u8], names: &Shdr, place: u64, header: &Shdr) -> Result<Section, ReadFault>
-    requires names { names.now.offset + names.now.size ≤ length bytes.now }
+fn read_section(
+    bytes: &[u8],
+    names: &StringTable,
+    place: u64,
+    header: &Shdr,
+) -> Result<Section, ReadFault>
+    requires long { length bytes.now ≤ 67108864 }
+    requires names { IsIndexed bytes.now names.now }
     requires place { place < 2 ^ 63 }
-    ensures section { IfOk result (λ s. s ≡ listed_section bytes.now names.now header.now) }
-    ensures flaw { result_err result ≡ first_of (section_checks bytes.now names.now place header.now) }
+    ensures section { IfOk result (λ s. s ≡ listed_section bytes.now names.now.header header.now) }
+    ensures flaw { result_err result ≡ first_of (section_checks bytes.now names.now.header place header.now) }
 {
     let Some(name) = section_name(bytes, names, header) else {
         return Err(ReadFault {
@@ -99,14 +106,15 @@ fn read_section(bytes: &[u8], names: &Shdr, place: u64, header: &Shdr) -> Result
 }
 
 /// The name of a section; `None` where no zero byte ends it.
-fn section_name(bytes: &[u8], names: &Shdr, header: &Shdr) -> Option<Range>
-    requires { names.now.offset + names.now.size ≤ length bytes.now }
-    ensures { result ≡ section_name bytes.now names.now header.now }
+fn section_name(bytes: &[u8], names: &StringTable, header: &Shdr) -> Option<Range>
+    requires long { length bytes.now ≤ 67108864 }
+    requires names { IsIndexed bytes.now names.now }
+    ensures { result ≡ section_name bytes.now names.now.header header.now }
 {
     if header.kind == SHT_NULL {
         Some(NO_NAME)
     } else {
-        string_in(bytes, names, header.name)
+        names.string(bytes, header.name)
     }
 }
 

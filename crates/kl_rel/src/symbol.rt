@@ -2,11 +2,12 @@
 ghost use Rattle.std.specs.Prelude.{◌≡◌, ◌+◌, ◌*◌, ◌≤◌, ◌<◌, ◌^◌, length, slice_get, IfOk, OnOk, IfErr, None};
 ghost use Rattle.std.specs.Result.{result_err};
 ghost use Rattle.kl_rel.specs.Flaws.{IsAnswer, first_of};
+ghost use Rattle.kl_rel.specs.StringTables.{IsIndexed};
 ghost use Rattle.kl_rel.specs.Headers.{IsTable, ranges_flaw, head};
 ghost use Rattle.kl_rel.specs.SymbolTables.{IsSymbolTable, symbol_tables, second_table_flaw, table_form_checks, symbol_table_checks, symbol_form_checks, symbol_place_checks, symbol_flaw_of, symbol_of, symbols_flaw, symbols_in, symbol_in, symbol_checks, is_local, is_unnamed, has_section, is_in_section, is_common, strings};
 
 use crate::section::{NO_NAME, is_alignment, is_too_large, unsupported};
-use crate::string::string_in;
+use crate::string::StringTable;
 use crate::table::{SHT_STRTAB, SHT_SYMTAB, Table};
 use crate::{Feature, ReadError, ReadFault, ReadKind};
 use kl_base::{Listed, Range};
@@ -166,11 +167,11 @@ pub(crate) fn read_symbols(
     ensures sound { OnOk result (symbols_flaw bytes.now ≡ None) }
     ensures flaw { IfErr result (IsAnswer (symbols_flaw bytes.now)) }
 {
-    let strings = table.section(bytes, symbol_table.strings);
     let mut symbols = Listed::new(alloc);
     if symbol_table.count == 0 {
         return Ok(symbols);
     }
+    let strings = StringTable::new(alloc, bytes, &table.section(bytes, symbol_table.strings))?;
     symbols.push(NO_SYMBOL)?;
     for number in 1..symbol_table.count {
         let place = symbol_table.place + Sym::SIZE as u64 * number;
@@ -186,18 +187,18 @@ pub(crate) fn read_symbols(
 fn read_symbol(
     bytes: &[u8],
     count: u32,
-    strings: &Shdr,
+    strings: &StringTable,
     first: bool,
     place: u64,
 ) -> Result<Symbol, ReadFault>
     requires long { length bytes.now ≤ 67108864 }
-    requires strings { strings.now.offset + strings.now.size ≤ length bytes.now }
+    requires strings { IsIndexed bytes.now strings.now }
     requires place { place + 24 ≤ length bytes.now }
-    ensures symbol { IfOk result (λ y. y ≡ symbol_in bytes.now strings.now place) }
-    ensures flaw { result_err result ≡ first_of (symbol_checks bytes.now count strings.now first place) }
+    ensures symbol { IfOk result (λ y. y ≡ symbol_in bytes.now strings.now.header place) }
+    ensures flaw { result_err result ≡ first_of (symbol_checks bytes.now count strings.now.header first place) }
 {
     let symbol = Sym::read(bytes, place as usize);
-    let name = string_in(bytes, strings, symbol.name);
+    let name = strings.string(bytes, symbol.name);
     check_name(name, first, place, &symbol)?;
     check_place(count, place, &symbol)?;
     Ok(Symbol {

@@ -26,10 +26,10 @@ loop-number-init c =
       list = rw (c.in_ok-push.ensures.ok, c.new-symbols.ensures, c.requires.symbol_table.count, test) refl;
     }
 
-pub read_symbol-requires-clause-strings : goal.read_symbol-requires-clause-strings
-read_symbol-requires-clause-strings c =
+pub new-requires-clause-lies : goal.new-requires-clause-lies
+new-requires-clause-lies c =
     let some = rw c.requires.symbol_table.count at c.if-symbol_table-eq0.false in
-    rw (c.section-strings.ensures, c.requires.symbol_table.strings)
+    rw (c.section.ensures, c.requires.symbol_table.strings)
     (strings_lie c.args.bytes.now c.requires.ranges c.requires.form (ne_eqb _ 0 some))
 
 pub loop-number-preserved : goal.loop-number-preserved
@@ -38,8 +38,8 @@ loop-number-preserved c =
     let n = c.loop-number.number in
     let count = c.args.symbol_table.now.count in
     let is = c.requires.symbol_table in
-    let flaw = rw (c.section-strings.ensures, is.strings, c.from.ensures, is.locals, is.place, c.requires.table.count) at (c.in_ok-symbol.ensures.flaw) in
-    let symbol = rw (c.section-strings.ensures, is.strings, is.place) at (c.in_ok-symbol.ensures.symbol) in
+    let flaw = rw (c.in_ok-strings.ensures.header, c.section.ensures, is.strings, c.from.ensures, is.locals, is.place, c.requires.table.count) at (c.in_ok-symbol.ensures.flaw) in
+    let symbol = rw (c.in_ok-strings.ensures.header, c.section.ensures, is.strings, is.place) at (c.in_ok-symbol.ensures.symbol) in
     record {
       flaw = first_passes (symbol_flaw_of b) n count (sym flaw) (omega arith) c.loop-number.invariant.flaw;
       list = rw (c.in_ok-push-2.ensures.ok, symbol) (map_passes (symbol_of b) n count c.loop-number.symbols (omega arith) c.loop-number.invariant.list);
