@@ -1,0 +1,6 @@
+use Rattle.std.proofs.Common.{◌≡◌, sym}
+use Rattle.kl_rel.proofs.TextLens.{or_len}
+use Rattle.kl_rel.proofs.string.zero_or_len.Goals as goal
+
+pub returns : goal.returns
+returns c = rw (c.unwrap_or.ensures, c.first_zero.ensures) (or_len c.args.bytes.now)

@@ -1,0 +1,84 @@
+-- The section headers of an object (gABI, "Sections").
+use Rattle.std.specs.Prelude.{ℕ, ◌+◌, ◌-◌, ◌*◌, ◌≤◌, ◌<◌, ◌≡◌, Bool, cond, not, ◌&&◌, ◌||◌, ◌==◌, nat_le, nat_lt, List, [], ◌∷◌, length, map, Option, slice_range, position}
+use Rattle.std.specs.Option.{option_map}
+use Rattle.std.specs.List.{range_with_len}
+use Rattle.kl_base.specs.declared.class.Range.{Range}
+use Rattle.kl_elf.specs.Heads.{head_fault}
+use Rattle.kl_elf.specs.Records.{ehdr_at, shdr_at}
+use Rattle.kl_elf.specs.declared.records.Ehdr.{Ehdr}
+use Rattle.kl_elf.specs.declared.records.Shdr.{Shdr}
+use Rattle.kl_rel.specs.Flaws.{flaw_if, first_of}
+use Rattle.kl_rel.specs.declared.fault.Feature.TheVariants.{Extended}
+use Rattle.kl_rel.specs.declared.fault.ReadFault.{ReadFault}
+use Rattle.kl_rel.specs.declared.fault.ReadKind.TheVariants.{Head, Unsupported, SectionTable, SectionRange}
+use Rattle.kl_rel.specs.declared.table.Table.{Table}
+
+abbrev pub head : List ℕ → Ehdr
+head b = ehdr_at b 0
+
+-- SHT_NULL, all zero
+abbrev pub null_header : Shdr
+null_header = record { name = 0; kind = 0; flags = 0; addr = 0; offset = 0; size = 0; link = 0; info = 0; addralign = 0; entsize = 0 }
+
+-- the place of section header n; each has 64 bytes
+abbrev pub header_place : List ℕ → ℕ → ℕ
+header_place b n = (head b).shoff + 64 * n
+
+-- the header of section n; number 0 is of type SHT_NULL and without flags, whatever its header holds, and so is a number that no
+-- section has
+unfoldable pub section : List ℕ → ℕ → Shdr
+section b n = cond ((n == 0) || nat_le (head b).shnum n) null_header (shdr_at b (header_place b n))
+
+-- the numbers of the sections, from 1 on
+abbrev pub numbers : List ℕ → List ℕ
+numbers b = range_with_len 1 ((head b).shnum - 1)
+
+-- SHT_SYMTAB (2), SHT_STRTAB (3)
+abbrev pub is_symbol_table : Shdr → Bool
+is_symbol_table s = s.kind == 2
+
+abbrev pub is_string_table : Shdr → Bool
+is_string_table s = s.kind == 3
+
+-- a flaw of the file header
+abbrev pub head_flaw : List ℕ → Option ReadFault
+head_flaw b = option_map (λ f. record { kind = Head f.0; at = f.1 }) (head_fault b)
+
+-- the section header table lies in the file, and its string table is one
+unfoldable pub table_checks : List ℕ → List (Option ReadFault)
+table_checks b =
+    flaw_if (((head b).shnum == 0) && not ((head b).shoff == 0)) (Unsupported Extended) 60
+    ∷ flaw_if ((head b).shstrndx == 0xffff) (Unsupported Extended) 62
+    ∷ flaw_if ((head b).shnum == 0) SectionTable 60
+    ∷ flaw_if (nat_lt (length b) ((head b).shoff + 64 * (head b).shnum)) SectionTable 40
+    ∷ flaw_if (not (is_string_table (section b (head b).shstrndx))) SectionTable 62 ∷ []
+
+-- the table that a reader holds
+pub record IsTable (b : List ℕ) (t : Table) : Type 0 where
+  pub place : t.place ≡ (head b).shoff
+  pub count : t.count ≡ (head b).shnum
+  pub names : t.names ≡ (head b).shstrndx
+  pub some : 0 < t.count
+  pub lies : t.place + 64 * t.count ≤ length b
+
+-- a section has bytes in the file, but one of SHT_NULL (0) or SHT_NOBITS (8)
+abbrev pub has_bytes : Shdr → Bool
+has_bytes s = not (s.kind == 0) && not (s.kind == 8)
+
+-- the bytes of a section, whose header stands at this place, lie in the file
+unfoldable pub range_flaw : List ℕ → ℕ → Shdr → Option ReadFault
+range_flaw b place s = flaw_if (has_bytes s && nat_lt (length b) (s.offset + s.size)) SectionRange (place + 24)
+
+-- of section n
+abbrev pub range_flaw_of : List ℕ → ℕ → Option ReadFault
+range_flaw_of b n = range_flaw b (header_place b n) (section b n)
+
+-- the first section whose bytes don't
+unfoldable pub ranges_flaw : List ℕ → Option ReadFault
+ranges_flaw b = first_of (map (range_flaw_of b) (numbers b))
+
+-- the text that begins at a place of a string table, as a place in the file: a zero byte of the table ends it
+unfoldable pub string_in : List ℕ → Shdr → ℕ → Option Range
+string_in b table place =
+    option_map (λ len. record { at = table.offset + place; len = len })
+    (position (λ c. c == 0) (slice_range b (table.offset + place) (table.offset + table.size)))

@@ -1,0 +1,11 @@
+pub mod Flaws
+pub mod Headers
+pub mod StringTables
+pub mod Sections
+pub mod SymbolTables
+pub mod Relocations
+pub mod FieldLists
+pub mod EntryLists
+pub mod SectionGroups
+pub mod Grouped
+pub mod Objects

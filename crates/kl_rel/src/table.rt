@@ -1,0 +1,178 @@
+// The section header table of an object.
+ghost use Rattle.std.specs.Prelude.{◌≡◌, ◌+◌, ◌*◌, ◌≤◌, ◌<◌, ◌^◌, length, nat_le, IfOk};
+ghost use Rattle.std.specs.Option.{option_or};
+ghost use Rattle.std.specs.Result.{result_err};
+ghost use Rattle.kl_elf.specs.Records.{ehdr_at};
+ghost use Rattle.kl_rel.specs.Flaws.{first_of};
+ghost use Rattle.kl_rel.specs.Headers.{section, head_flaw, table_checks, range_flaw, ranges_flaw, header_place, null_header, IsTable};
+
+use crate::{Feature, ReadFault, ReadKind};
+use kl_elf::{Ehdr, Shdr, read_ehdr};
+
+pub(crate) const SHT_NULL: u32 = 0;
+
+pub(crate) const SHT_SYMTAB: u32 = 2;
+
+pub(crate) const SHT_STRTAB: u32 = 3;
+
+pub(crate) const SHT_NOBITS: u32 = 8;
+
+const SHN_XINDEX: u16 = 0xffff;
+
+/// The header of section 0.
+const NULL_HEADER: Shdr = Shdr {
+    name: 0,
+    kind: SHT_NULL,
+    flags: 0,
+    addr: 0,
+    offset: 0,
+    size: 0,
+    link: 0,
+    info: 0,
+    addralign: 0,
+    entsize: 0,
+};
+
+/// The section header table of an object, which lies in its file.
+#[derive(Clone, Copy, Debug)]
+pub(crate) struct Table {
+    /// Its place in the file.
+    pub(crate) place: u64,
+    /// The number of sections, section 0 among them.
+    pub(crate) count: u32,
+    /// The number of the string table of section names.
+    pub(crate) names: u32,
+}
+
+impl Table {
+    /// The place of a section's header.
+    pub(crate) fn place_of(&self, number: u32) -> u64
+        requires lies { self.now.place + 64 * self.now.count < 2 ^ 63 }
+        requires number { number < self.now.count }
+        ensures { result ≡ self.now.place + 64 * number }
+    {
+        self.place + 64 * u64::from(number)
+    }
+
+    /// The header of a section: the null header for number 0, and for a number that no section has.
+    #[tactic(auto, unfolding(crate::specs::Headers::section))]
+    pub(crate) fn section(&self, bytes: &[u8], number: u32) -> Shdr
+        requires { IsTable bytes.now self.now }
+        ensures { result ≡ section bytes.now number }
+    {
+        if number == 0 || number >= self.count {
+            return NULL_HEADER;
+        }
+        Shdr::read(bytes, self.place_of(number) as usize)
+    }
+}
+
+/// Reads the file header, and finds the section header table.
+///
+/// # Errors
+///
+/// The first flaw of the two.
+pub(crate) fn read_table(bytes: &[u8]) -> Result<Table, ReadFault>
+    requires { length bytes.now ≤ 67108864 }
+    ensures table { IfOk result (λ t. IsTable bytes.now t) }
+    ensures flaw { result_err result ≡ option_or (head_flaw bytes.now) (first_of (table_checks bytes.now)) }
+{
+    match read_ehdr(bytes) {
+        Ok(head) => table_of(bytes, &head),
+        Err((fault, at)) => Err(ReadFault {
+            kind: ReadKind::Head(fault),
+            at,
+        }),
+    }
+}
+
+/// The section header table that a file header names.
+#[tactic(auto, unfolding(crate::specs::Headers::table_checks))]
+fn table_of(bytes: &[u8], head: &Ehdr) -> Result<Table, ReadFault>
+    requires long { length bytes.now ≤ 67108864 }
+    requires head { head.now ≡ ehdr_at bytes.now 0 }
+    ensures table { IfOk result (λ t. IsTable bytes.now t) }
+    ensures flaw { result_err result ≡ first_of (table_checks bytes.now) }
+{
+    if head.shnum == 0 && head.shoff != 0 {
+        return Err(extended(60));
+    }
+    if head.shstrndx == SHN_XINDEX {
+        return Err(extended(62));
+    }
+    if head.shnum == 0 {
+        return Err(table_fault(60));
+    }
+    if !lies_in(bytes, head.shoff, 64 * u64::from(head.shnum)) {
+        return Err(table_fault(40));
+    }
+    let table = Table {
+        place: head.shoff,
+        count: u32::from(head.shnum),
+        names: u32::from(head.shstrndx),
+    };
+    if table.section(bytes, table.names).kind != SHT_STRTAB {
+        return Err(table_fault(62));
+    }
+    Ok(table)
+}
+
+fn extended(at: u64) -> ReadFault
+    ensures { result ≡ record { kind = ReadKind.Unsupported Feature.Extended; at = at } }
+{
+    ReadFault {
+        kind: ReadKind::Unsupported(Feature::Extended),
+        at,
+    }
+}
+
+fn table_fault(at: u64) -> ReadFault
+    ensures { result ≡ record { kind = ReadKind.SectionTable; at = at } }
+{
+    ReadFault {
+        kind: ReadKind::SectionTable,
+        at,
+    }
+}
+
+/// Whether `size` bytes from `offset` on lie in the file.
+fn lies_in(bytes: &[u8], offset: u64, size: u64) -> bool
+    ensures { result ≡ nat_le (offset + size) (length bytes.now) }
+{
+    match offset.checked_add(size) {
+        Some(end) => end <= bytes.len() as u64,
+        None => false,
+    }
+}
+
+/// Checks that the bytes of each section lie in the file.
+///
+/// # Errors
+///
+/// The first that does not.
+pub(crate) fn check_ranges(bytes: &[u8], table: &Table) -> Result<(), ReadFault>
+    requires long { length bytes.now ≤ 67108864 }
+    requires table { IsTable bytes.now table.now }
+    ensures { result_err result ≡ ranges_flaw bytes.now }
+{
+    for number in 1..table.count {
+        check_range(bytes, table.place_of(number), &table.section(bytes, number))?;
+    }
+    Ok(())
+}
+
+/// Checks that the bytes of a section lie in the file; its header stands at `place`.
+#[tactic(auto, unfolding(crate::specs::Headers::range_flaw))]
+fn check_range(bytes: &[u8], place: u64, section: &Shdr) -> Result<(), ReadFault>
+    requires { place < 2 ^ 63 }
+    ensures { result_err result ≡ range_flaw bytes.now place section.now }
+{
+    let has_bytes = section.kind != SHT_NULL && section.kind != SHT_NOBITS;
+    if has_bytes && !lies_in(bytes, section.offset, section.size) {
+        return Err(ReadFault {
+            kind: ReadKind::SectionRange,
+            at: place + 24,
+        });
+    }
+    Ok(())
+}

@@ -1,0 +1,405 @@
+use crate::{Feature, ReadError, ReadFault, ReadKind, read_object};
+use kl_base::Range;
+use kl_elf::HeadFault;
+use kl_le::put;
+use kl_model::{RawField, Section, Symbol};
+use std::test::Fail;
+
+/// An object as `readelf` shows it: a text of 16 bytes with two relocation entries, a COMDAT group that holds it, and the
+/// tables of symbols and names. What stands at each place is said above it.
+const OBJECT: [u8; 712] = [
+    // the file header
+    0x7f, 0x45, 0x4c, 0x46, 2, 1, 1, 0, 0, 0, 0, 0, 0, 0, 0, 0, 1, 0, 0x3e, 0, 1, 0, 0, 0, 0, 0, 0,
+    0, 0, 0, 0, 0, 0, 0, 0, 0, 0, 0, 0, 0, 8, 1, 0, 0, 0, 0, 0, 0, 0, 0, 0, 0, 0x40, 0, 0, 0, 0, 0,
+    0x40, 0, 7, 0, 5, 0,
+    // 64: the text
+    0xe8, 0, 0, 0, 0, 0xc3, 0x90, 0x90, 0, 0, 0, 0, 0, 0, 0, 0,
+    // 80: its relocation entries, PLT32 at 1 and 64 at 8
+    1, 0, 0, 0, 0, 0, 0, 0, 4, 0, 0, 0, 2, 0, 0, 0, 0xfc, 0xff, 0xff, 0xff, 0xff, 0xff, 0xff, 0xff,
+    8, 0, 0, 0, 0, 0, 0, 0, 1, 0, 0, 0, 1, 0, 0, 0, 5, 0, 0, 0, 0, 0, 0, 0,
+    // 128: the symbols: number 0, that of the text section, and `start`
+    0, 0, 0, 0, 0, 0, 0, 0, 0, 0, 0, 0, 0, 0, 0, 0, 0, 0, 0, 0, 0, 0, 0, 0, 0, 0, 0, 0, 3, 0, 1, 0,
+    0, 0, 0, 0, 0, 0, 0, 0, 0, 0, 0, 0, 0, 0, 0, 0, 1, 0, 0, 0, 0x12, 2, 1, 0, 0, 0, 0, 0, 0, 0, 0,
+    0, 6, 0, 0, 0, 0, 0, 0, 0,
+    // 200: the names of symbols
+    0, 0x73, 0x74, 0x61, 0x72, 0x74, 0, 0,
+    // 208: the names of sections
+    0, 0x2e, 0x72, 0x65, 0x6c, 0x61, 0x2e, 0x74, 0x65, 0x78, 0x74, 0, 0x2e, 0x73, 0x79, 0x6d, 0x74,
+    0x61, 0x62, 0, 0x2e, 0x73, 0x74, 0x72, 0x74, 0x61, 0x62, 0, 0x2e, 0x73, 0x68, 0x73, 0x74, 0x72,
+    0x74, 0x61, 0x62, 0, 0x2e, 0x67, 0x72, 0x6f, 0x75, 0x70, 0, 0, 0, 0,
+    // 256: the group, of GRP_COMDAT and section 1
+    1, 0, 0, 0, 1, 0, 0, 0,
+    // 264: section 0
+    0, 0, 0, 0, 0, 0, 0, 0, 0, 0, 0, 0, 0, 0, 0, 0, 0, 0, 0, 0, 0, 0, 0, 0, 0, 0, 0, 0, 0, 0, 0, 0,
+    0, 0, 0, 0, 0, 0, 0, 0, 0, 0, 0, 0, 0, 0, 0, 0, 0, 0, 0, 0, 0, 0, 0, 0, 0, 0, 0, 0, 0, 0, 0, 0,
+    // 328: .text
+    6, 0, 0, 0, 1, 0, 0, 0, 6, 2, 0, 0, 0, 0, 0, 0, 0, 0, 0, 0, 0, 0, 0, 0, 0x40, 0, 0, 0, 0, 0, 0,
+    0, 0x10, 0, 0, 0, 0, 0, 0, 0, 0, 0, 0, 0, 0, 0, 0, 0, 0x10, 0, 0, 0, 0, 0, 0, 0, 0, 0, 0, 0, 0,
+    0, 0, 0,
+    // 392: .rela.text
+    1, 0, 0, 0, 4, 0, 0, 0, 0x40, 0, 0, 0, 0, 0, 0, 0, 0, 0, 0, 0, 0, 0, 0, 0, 0x50, 0, 0, 0, 0, 0,
+    0, 0, 0x30, 0, 0, 0, 0, 0, 0, 0, 3, 0, 0, 0, 1, 0, 0, 0, 8, 0, 0, 0, 0, 0, 0, 0, 0x18, 0, 0, 0,
+    0, 0, 0, 0,
+    // 456: .symtab
+    0x0c, 0, 0, 0, 2, 0, 0, 0, 0, 0, 0, 0, 0, 0, 0, 0, 0, 0, 0, 0, 0, 0, 0, 0, 0x80, 0, 0, 0, 0, 0,
+    0, 0, 0x48, 0, 0, 0, 0, 0, 0, 0, 4, 0, 0, 0, 2, 0, 0, 0, 8, 0, 0, 0, 0, 0, 0, 0, 0x18, 0, 0, 0,
+    0, 0, 0, 0,
+    // 520: .strtab
+    0x14, 0, 0, 0, 3, 0, 0, 0, 0, 0, 0, 0, 0, 0, 0, 0, 0, 0, 0, 0, 0, 0, 0, 0, 0xc8, 0, 0, 0, 0, 0,
+    0, 0, 8, 0, 0, 0, 0, 0, 0, 0, 0, 0, 0, 0, 0, 0, 0, 0, 1, 0, 0, 0, 0, 0, 0, 0, 0, 0, 0, 0, 0, 0,
+    0, 0,
+    // 584: .shstrtab
+    0x1c, 0, 0, 0, 3, 0, 0, 0, 0, 0, 0, 0, 0, 0, 0, 0, 0, 0, 0, 0, 0, 0, 0, 0, 0xd0, 0, 0, 0, 0, 0,
+    0, 0, 0x2d, 0, 0, 0, 0, 0, 0, 0, 0, 0, 0, 0, 0, 0, 0, 0, 1, 0, 0, 0, 0, 0, 0, 0, 0, 0, 0, 0, 0,
+    0, 0, 0,
+    // 648: .group
+    0x26, 0, 0, 0, 0x11, 0, 0, 0, 0, 0, 0, 0, 0, 0, 0, 0, 0, 0, 0, 0, 0, 0, 0, 0, 0, 1, 0, 0, 0, 0,
+    0, 0, 8, 0, 0, 0, 0, 0, 0, 0, 3, 0, 0, 0, 1, 0, 0, 0, 4, 0, 0, 0, 0, 0, 0, 0, 4, 0, 0, 0, 0, 0,
+    0, 0,
+];
+
+/// The object with some of its bytes changed.
+fn changed(changes: &[(usize, u8)]) -> [u8; 712] {
+    let mut bytes = OBJECT;
+    for (at, byte) in changes {
+        if *at < bytes.len() {
+            bytes[*at] = *byte;
+        }
+    }
+    bytes
+}
+
+#[test]
+fn reads_the_sections_and_symbols_of_an_object(rt: HostRuntime) {
+    let read = read_object(rt.alloc(), &OBJECT);
+    assert!(rt; read.is_ok());
+    if let Ok(object) = read {
+        let sections = object.sections.items();
+        assert_eq!(rt; sections.len(), 6);
+        assert_eq!(rt;
+            sections.first().copied(),
+            Some(Section {
+                name: Range { at: 214, len: 5 },
+                kind: 1,
+                flags: 0x206,
+                at: 64,
+                size: 16,
+                align: 16,
+            })
+        );
+        let symbols = object.symbols.items();
+        assert_eq!(rt; symbols.len(), 3);
+        assert_eq!(rt;
+            symbols.last().copied(),
+            Some(Symbol {
+                name: Range { at: 201, len: 5 },
+                binding: 1,
+                kind: 2,
+                visibility: 2,
+                section: 1,
+                value: 0,
+                size: 6,
+            })
+        );
+    }
+}
+
+#[test]
+fn reads_the_fields_and_groups_of_an_object(rt: HostRuntime) {
+    let read = read_object(rt.alloc(), &OBJECT);
+    assert!(rt; read.is_ok());
+    if let Ok(object) = read {
+        let field = RawField {
+            rela: 2,
+            index: 0,
+            section: 1,
+            offset: 1,
+            kind: 4,
+            symbol: 2,
+            addend: -4,
+        };
+        let last = RawField {
+            rela: 2,
+            index: 1,
+            section: 1,
+            offset: 8,
+            kind: 1,
+            symbol: 1,
+            addend: 5,
+        };
+        assert_eq!(rt; object.fields.items(), [field, last].as_slice());
+        let groups = object.groups.items();
+        assert_eq!(rt; groups.len(), 1);
+        for group in groups {
+            assert_eq!(rt; (group.section, group.comdat), (6, true));
+            assert_eq!(rt; group.signature, Range { at: 214, len: 5 });
+            assert_eq!(rt; group.members.items(), [1].as_slice());
+        }
+    }
+}
+
+#[test]
+fn tells_an_object_that_is_cut_short(rt: HostRuntime) {
+    for len in 0..712 {
+        let fault = if len < 64 {
+            ReadFault {
+                kind: ReadKind::Head(HeadFault::Truncated),
+                at: len as u64,
+            }
+        } else {
+            ReadFault {
+                kind: ReadKind::SectionTable,
+                at: 40,
+            }
+        };
+        let read = read_object(rt.alloc(), &OBJECT[..len]);
+        assert_eq!(rt; read.err(), Some(ReadError::Flaw(fault)));
+    }
+}
+
+#[test]
+fn tells_the_first_flaw(rt: HostRuntime) {
+    let rows: [(&[(usize, u8)], ReadKind, u64); 67] = [
+        // the section header table
+        (&[(18, 3)], ReadKind::Head(HeadFault::Machine), 18),
+        (&[(60, 0)], ReadKind::Unsupported(Feature::Extended), 60),
+        (
+            &[(62, 0xff), (63, 0xff)],
+            ReadKind::Unsupported(Feature::Extended),
+            62,
+        ),
+        (&[(40, 0), (41, 0), (60, 0)], ReadKind::SectionTable, 60),
+        (&[(40, 9)], ReadKind::SectionTable, 40),
+        (&[(47, 0xff)], ReadKind::SectionTable, 40),
+        (&[(60, 8)], ReadKind::SectionTable, 40),
+        (&[(62, 0)], ReadKind::SectionTable, 62),
+        (&[(62, 7)], ReadKind::SectionTable, 62),
+        (&[(62, 1)], ReadKind::SectionTable, 62),
+        // the places of sections: one at 2^64 - 1, and one past the end
+        (
+            &[
+                (359, 0xff),
+                (358, 0xff),
+                (357, 0xff),
+                (356, 0xff),
+                (355, 0xff),
+                (354, 0xff),
+                (353, 0xff),
+                (352, 0xff),
+            ],
+            ReadKind::SectionRange,
+            352,
+        ),
+        (&[(617, 2)], ReadKind::SectionRange, 608),
+        // the sections
+        (&[(328, 48)], ReadKind::NameRange, 328),
+        (&[(337, 6)], ReadKind::Unsupported(Feature::Tls), 336),
+        (
+            &[(337, 10)],
+            ReadKind::Unsupported(Feature::Compressed),
+            336,
+        ),
+        (
+            &[(336, 7)],
+            ReadKind::Unsupported(Feature::WriteExecute),
+            336,
+        ),
+        (
+            &[(332, 3)],
+            ReadKind::Unsupported(Feature::SectionType),
+            332,
+        ),
+        (
+            &[(332, 0)],
+            ReadKind::Unsupported(Feature::SectionType),
+            332,
+        ),
+        (
+            &[(396, 9), (400, 2)],
+            ReadKind::Unsupported(Feature::SectionType),
+            396,
+        ),
+        (
+            &[
+                (215, b'd'),
+                (217, b'o'),
+                (218, b'r'),
+                (219, b's'),
+                (216, b't'),
+            ],
+            ReadKind::Unsupported(Feature::Priority),
+            328,
+        ),
+        (&[(376, 3)], ReadKind::Align, 376),
+        (&[(376, 0), (378, 0x40)], ReadKind::Align, 376),
+        (&[(332, 8), (363, 0x40)], ReadKind::SectionRange, 360),
+        // the symbol table
+        (&[(524, 2)], ReadKind::SymbolTable, 524),
+        (&[(488, 0)], ReadKind::SymbolTable, 488),
+        (&[(488, 71)], ReadKind::SymbolTable, 488),
+        (&[(512, 23)], ReadKind::SymbolTable, 512),
+        (&[(496, 1)], ReadKind::SymbolTable, 496),
+        (&[(500, 0)], ReadKind::SymbolTable, 500),
+        (&[(500, 4)], ReadKind::SymbolTable, 500),
+        // the symbols
+        (&[(176, 8)], ReadKind::NameRange, 176),
+        (&[(176, 0)], ReadKind::NameRange, 176),
+        (&[(180, 2)], ReadKind::SymbolTable, 180),
+        (&[(500, 3)], ReadKind::SymbolTable, 180),
+        (&[(500, 1)], ReadKind::SymbolTable, 156),
+        (&[(180, 0x32)], ReadKind::Unsupported(Feature::Binding), 180),
+        (&[(180, 0x16)], ReadKind::Unsupported(Feature::Tls), 180),
+        (&[(180, 0x1a)], ReadKind::Unsupported(Feature::Ifunc), 180),
+        (
+            &[(180, 0x17)],
+            ReadKind::Unsupported(Feature::SymbolType),
+            180,
+        ),
+        (
+            &[(182, 0xff), (183, 0xff)],
+            ReadKind::Unsupported(Feature::Extended),
+            182,
+        ),
+        (&[(182, 7)], ReadKind::SymbolSection, 182),
+        (&[(182, 0), (183, 0xff)], ReadKind::SymbolSection, 182),
+        (&[(158, 0)], ReadKind::SymbolSection, 158),
+        (&[(182, 0xf2), (183, 0xff)], ReadKind::Align, 184),
+        (&[(184, 1), (187, 0x40)], ReadKind::SymbolSection, 184),
+        (
+            &[(182, 0xf2), (183, 0xff), (184, 8), (195, 0x41)],
+            ReadKind::SymbolSection,
+            192,
+        ),
+        // the relocation entries
+        (&[(436, 7)], ReadKind::RelaLink, 436),
+        (&[(396, 9)], ReadKind::RelaKindForm, 396),
+        (&[(332, 8)], ReadKind::RelaLink, 436),
+        (&[(432, 4)], ReadKind::RelaLink, 432),
+        (&[(448, 16)], ReadKind::RelaLink, 448),
+        (&[(424, 47)], ReadKind::RelaLink, 424),
+        (&[(92, 3)], ReadKind::RelaLink, 88),
+        (&[(80, 13)], ReadKind::RelaPlace, 80),
+        (&[(87, 0xff)], ReadKind::RelaPlace, 80),
+        (&[(80, 5)], ReadKind::FieldOverlap, 104),
+        (&[(80, 12), (104, 5)], ReadKind::FieldOverlap, 104),
+        // the groups
+        (&[(680, 7)], ReadKind::GroupForm, 680),
+        (&[(680, 3)], ReadKind::GroupForm, 680),
+        (&[(688, 4)], ReadKind::GroupForm, 688),
+        (&[(692, 0)], ReadKind::GroupForm, 692),
+        (&[(692, 3)], ReadKind::GroupForm, 692),
+        (&[(256, 2)], ReadKind::GroupForm, 256),
+        (&[(260, 0)], ReadKind::GroupForm, 260),
+        (&[(260, 7)], ReadKind::GroupForm, 260),
+        (&[(260, 6)], ReadKind::GroupForm, 260),
+        (&[(680, 12), (264, 1)], ReadKind::GroupForm, 264),
+    ];
+    for (changes, kind, at) in rows {
+        let read = read_object(rt.alloc(), &changed(changes));
+        assert_eq!(rt; read.err(), Some(ReadError::Flaw(ReadFault { kind, at })));
+    }
+}
+
+#[test]
+fn reads_what_has_no_flaw(rt: HostRuntime) {
+    // a field of 4 bytes at 12 and then one of 8 at 4, an entry of no width at the end, an alignment of 0, a common
+    // symbol, a symbol at 2^30, and the bytes of section 0 and of symbol 0
+    let rows: [&[(usize, u8)]; 7] = [
+        &[(80, 12), (104, 4)],
+        &[(88, 0), (80, 16)],
+        &[(376, 0)],
+        &[(182, 0xf2), (183, 0xff), (184, 8)],
+        &[(187, 0x40)],
+        &[(268, 2), (272, 7)],
+        &[(128, 9), (132, 0xff)],
+    ];
+    for changes in rows {
+        let read = read_object(rt.alloc(), &changed(changes));
+        assert!(rt; read.is_ok());
+    }
+}
+
+#[test]
+fn tells_a_header_field_that_is_off(rt: HostRuntime) {
+    let table = |at: u64| Some((ReadKind::SectionTable, at));
+    let range = |at: u64| Some((ReadKind::SectionRange, at));
+    // the flaw where the field is 0, 1, the file's length and 2^64 - 1: `e_shoff`, and then `sh_offset` and `sh_size` of the
+    // text, its relocation section, the symbol table and the group
+    let rows = [
+        (40, [table(62), table(62), table(40), table(40)]),
+        (352, [None, None, range(352), range(352)]),
+        (
+            360,
+            [
+                Some((ReadKind::RelaPlace, 80)),
+                Some((ReadKind::RelaPlace, 80)),
+                range(352),
+                range(352),
+            ],
+        ),
+        (
+            416,
+            [
+                Some((ReadKind::RelaPlace, 0)),
+                Some((ReadKind::RelaLink, 9)),
+                range(416),
+                range(416),
+            ],
+        ),
+        (
+            424,
+            [
+                None,
+                Some((ReadKind::RelaLink, 424)),
+                range(416),
+                range(416),
+            ],
+        ),
+        (
+            480,
+            [
+                Some((ReadKind::SymbolSection, 30)),
+                Some((ReadKind::SymbolSection, 31)),
+                range(480),
+                range(480),
+            ],
+        ),
+        (
+            488,
+            [
+                Some((ReadKind::SymbolTable, 488)),
+                Some((ReadKind::SymbolTable, 488)),
+                range(480),
+                range(480),
+            ],
+        ),
+        (
+            672,
+            [
+                Some((ReadKind::GroupForm, 0)),
+                Some((ReadKind::GroupForm, 1)),
+                range(672),
+                range(672),
+            ],
+        ),
+        (
+            680,
+            [
+                Some((ReadKind::GroupForm, 680)),
+                Some((ReadKind::GroupForm, 680)),
+                range(672),
+                range(672),
+            ],
+        ),
+    ];
+    for (place, flaws) in rows {
+        for (value, flaw) in [0, 1, 712, u64::MAX].iter().zip(flaws) {
+            let mut bytes = OBJECT;
+            assert!(rt; place <= 704);
+            put::<8>(&mut bytes, place, *value);
+            let read = read_object(rt.alloc(), &bytes);
+            let flaw = flaw.map(|(kind, at)| ReadError::Flaw(ReadFault { kind, at }));
+            assert_eq!(rt; read.err(), flaw);
+        }
+    }
+}
