@@ -11,7 +11,8 @@ use Rattle.kl_store.specs.Names.{Names}
 use Rattle.kl_first.specs.KitText.{first_kit}
 use Rattle.kl_first.specs.ObjectFile.{is_first_object}
 use Rattle.kl_cli.specs.Commands.{command_of, link_of}
-use Rattle.kl_cli.specs.Answers.{link_refusal, kit_text, below, kit_text_limit, input_limit, texts}
+use Rattle.kl_cli.specs.declared.exit.Cause.{Cause}
+use Rattle.kl_cli.specs.Answers.{link_refusal, file_fault, kit_text, below, kit_text_limit, input_limit, texts}
 
 -- a folder whose files have the forms isn't refused
 pub link_refusal-none : (m : Names) (dir text bytes entry file : List ℕ) → get m (kit_text dir) ≡ Some text → length text ≤ kit_text_limit
@@ -19,6 +20,11 @@ pub link_refusal-none : (m : Names) (dir text bytes entry file : List ℕ) → g
     → link_refusal m dir ≡ None
 link_refusal-none m dir text bytes entry file e1 h1 e2 e3 h2 e4 =
     rw (e1, le-ltb kit_text_limit (length text) h1, e2, e3, le-ltb input_limit (length bytes) h2, e4) refl
+
+-- a folder whose text has the form is refused as its input's file is
+pub later_refused : (m : Names) (dir text entry file : List ℕ) (c : Cause) → get m (kit_text dir) ≡ Some text → length text ≤ kit_text_limit → first_kit text ≡ Some (entry, file)
+    → file_fault m (below dir file) input_limit ≡ Some c → link_refusal m dir ≡ Some c
+later_refused m dir text entry file c e1 h1 e2 e3 = rw (e1, le-ltb kit_text_limit (length text) h1, e2, e3) refl
 
 -- two words are a command where the first is `link` and the second a folder, and others are none
 pub not_two : (words : List (Vec ℕ Global)) → (length words ≡ 2 → ⊥) → None ≡ command_of (texts words)

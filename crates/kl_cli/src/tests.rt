@@ -1,6 +1,6 @@
 use crate::{Cause, Exit, KitCause, run};
 use kl_base::Name;
-use kl_store::{FlatStore, ListEntropy, VecSink};
+use kl_mem::{ListEntropy, MemStore, VecSink};
 use std::alloc::Global;
 use std::test::Fail;
 
@@ -57,7 +57,7 @@ fn object(alloc: Global) -> Result<Vec<u8>, Fail> {
 }
 
 /// The answer to words over a store, with what was written to the sink.
-fn answer(alloc: Global, words: &[&[u8]], store: &mut FlatStore) -> Result<(Exit, VecSink), Fail> {
+fn answer(alloc: Global, words: &[&[u8]], store: &mut MemStore) -> Result<(Exit, VecSink), Fail> {
     let mut given = Vec::new(alloc);
     for word in words {
         given.push(Vec::from_slice(alloc, word)?)?;
@@ -69,8 +69,8 @@ fn answer(alloc: Global, words: &[&[u8]], store: &mut FlatStore) -> Result<(Exit
 }
 
 /// A store with a kit text and an object in the folder `/kit`.
-fn kit_store(alloc: Global, text: &[u8], object: &[u8]) -> Result<FlatStore, Fail> {
-    let mut store = FlatStore::new(alloc);
+fn kit_store(alloc: Global, text: &[u8], object: &[u8]) -> Result<MemStore, Fail> {
+    let mut store = MemStore::new(alloc);
     store.put(&named(b"/kit/link.conf")?, text)?;
     store.put(&named(b"/kit/k.o")?, object)?;
     Ok(store)
@@ -114,7 +114,7 @@ fn tells_usage(rt: HostRuntime) -> Result<(), Fail> {
         &[b"reorder_kernel", b"/kit"],
     ];
     for words in cases {
-        let mut store = FlatStore::new(alloc);
+        let mut store = MemStore::new(alloc);
         store.fail_at(0, false)?;
         let (exit, out) = answer(alloc, words, &mut store)?;
         assert_eq!(rt;
@@ -166,16 +166,18 @@ fn refuses_other_forms(rt: HostRuntime) -> Result<(), Fail> {
 fn tells_absent_and_long_files(rt: HostRuntime) -> Result<(), Fail> {
     let alloc = rt.alloc();
     let conf = named(b"/kit/link.conf")?;
-    let mut store = FlatStore::new(alloc);
+    let mut store = MemStore::new(alloc);
     let (exit, _) = answer(alloc, &[b"link", b"/kit"], &mut store)?;
     assert_eq!(rt;
         (exit.status, exit.cause),
         (12, Cause::Kit(KitCause::Absent(conf)))
     );
+    let mut store = MemStore::new(alloc);
     store.put(&conf, KIT)?;
     let (exit, _) = answer(alloc, &[b"link", b"/kit"], &mut store)?;
     let absent = KitCause::Absent(named(b"/kit/k.o")?);
     assert_eq!(rt; (exit.status, exit.cause), (12, Cause::Kit(absent)));
+    let mut store = MemStore::new(alloc);
     store.put(&conf, &vec![in alloc; b'#'; 4_194_305]?)?;
     let (exit, _) = answer(alloc, &[b"link", b"/kit"], &mut store)?;
     assert_eq!(rt;
