@@ -95,9 +95,9 @@ null_symbol b = record {
   size = λ h. omega arith;
 }
 
-first_null : (y : Symbol) → AllWithin (λ z. (z.binding ≡ 0) × (z.section ≡ 0)) (no_symbol ∷ y ∷ []) 0 1
-first_null y zero d h l = (refl, refl)
-first_null y (suc k) d h l = absurd (omega arith)
+first_null : (y : Symbol) → All (λ z. (z.binding ≡ 0) × (z.section ≡ 0)) (take 1 (no_symbol ∷ y ∷ []))
+first_null y zero d l = (refl, refl)
+first_null y (suc k) d l = absurd (omega arith)
 
 no_other : (y : Symbol) → y.binding ≢ 0 → AllWithin (λ z. z.binding ≡ 0 → (z.section ≢ 0) × (z.section ≢ 0xfff2)) (no_symbol ∷ y ∷ []) 1 2
 no_other y never zero d h l = absurd (omega arith)
