@@ -1,7 +1,7 @@
 -- Kits of one input.
-use Rattle.std.proofs.Common.{ℕ, zero, suc, ◌≡◌, ◌∙◌, ◌^◌, ◌≤◌, ◌<◌, Bool, true, false, cond, List, [], ◌∷◌, length, refl, arith, Option}
-use Rattle.std.specs.Prelude.{All, None, Some, nat_lt, IsTrue, map}
-use Rattle.std.specs.Option.{option_map, option_or}
+use Rattle.std.proofs.Common.{ℕ, zero, suc, ◌≡◌, ◌∙◌, ◌^◌, ◌≤◌, Bool, true, false, cond, List, [], ◌∷◌, length, refl, arith}
+use Rattle.std.specs.Prelude.{All, None, Some, nat_lt}
+use Rattle.std.specs.Option.{option_map}
 use Rattle.std.specs.FinMap.{get}
 use Rattle.std.proofs.lemmas.Bool.{ltb-false}
 use Rattle.kl_store.specs.Names.{Names}
@@ -14,9 +14,7 @@ use Rattle.kl_rel.specs.Objects.{flaw}
 use Rattle.kl_first.specs.KitText.{IsFirstKit, first_kit, kit_of}
 use Rattle.kl_cli.specs.Answers.{below, bytes_refusal, input_limit, input_of, kit_refusal, kit_text, kit_text_limit, link_refusal, over_limit}
 use Rattle.kl_cli.specs.Links.{IsKitOf, IsLinkable}
-use Rattle.kl_cli.specs.declared.exit.Cause.{Cause}
 use Rattle.kl_cli.specs.declared.exit.Cause.TheVariants as cause
-use Rattle.kl_cli.specs.declared.exit.TotalOf.{TotalOf}
 use Rattle.kl_cli.specs.declared.exit.TotalOf.TheVariants.{Sections, Symbols, Fields}
 use Rattle.kl_cli.proofs.Refused.{refused_input, refused_bytes}
 

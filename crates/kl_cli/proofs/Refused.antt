@@ -1,6 +1,6 @@
 -- Which files are not refused, and what is read of them.
-use Rattle.std.proofs.Common.{◌≡◌, ℕ, ◌≤◌, ◌<◌, Bool, true, false, List, [], ◌∷◌, length, get_or, refl, sym, ap, ◌∙◌, subst, arith, Option}
-use Rattle.std.specs.Prelude.{Some, None, codes, is_some}
+use Rattle.std.proofs.Common.{◌≡◌, ℕ, ◌≤◌, ◌<◌, Bool, true, false, List, [], ◌∷◌, length, get_or, refl, sym, ◌∙◌, subst, arith, Option}
+use Rattle.std.specs.Prelude.{Some, None, codes}
 use Rattle.std.specs.Option.{option_map, option_or}
 use Rattle.std.specs.FinMap.{get}
 use Rattle.std.specs.Str.{bytes_eq}
@@ -61,6 +61,9 @@ refused_file m dir entry file c e = rw e refl
 pub refused_bytes : (m : Names) (dir entry file bytes : List ℕ) → get m (below dir file) ≡ Some bytes → length bytes ≤ input_limit
     → input_refusal m dir (entry, file) ≡ option_or (bytes_refusal bytes) (kit_refusal (kit_of entry file) (input_of bytes ∷ []))
 refused_bytes m dir entry file bytes e h = rw (e, le-ltb input_limit (length bytes) h) refl
+
+pub first_refusal : (o p : Option Cause) (c : Cause) → o ≡ Some c → option_or o p ≡ Some c
+first_refusal o p c e = rw e refl
 
 -- two words are a command where the first is `link` and the second a folder, and others are none
 pub not_two : (words : List (Vec ℕ Global)) → (length words ≡ 2 → ⊥) → None ≡ command_of (texts words)

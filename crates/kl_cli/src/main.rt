@@ -4,8 +4,8 @@
 mod command;
 mod exit;
 mod files;
-mod input;
 mod host;
+mod input;
 mod link;
 mod run;
 
