@@ -1,3 +1,4 @@
 pub mod Written
 pub mod Refused
 pub mod Said
+pub mod SmallInputs

@@ -18,6 +18,8 @@ use std::process::ExitCode;
 use std::rt::Env;
 
 #[cfg(test)]
+mod kernels;
+#[cfg(test)]
 mod tests;
 
 fn main(rt: HostRuntime) -> ExitCode {

@@ -1,5 +1,5 @@
 -- A divisor of a power of two is one.
-use Rattle.std.proofs.Common.{◌≡◌, ℕ, zero, suc, ◌+◌, ◌*◌, ◌/◌, ◌%◌, ◌^◌, ◌≤◌, ◌<◌, ◌⊎◌, ◌∙◌, refl, sym, ap, inl, inr, arith}
+use Rattle.std.proofs.Common.{◌≡◌, ℕ, zero, suc, ◌+◌, ◌*◌, ◌^◌, ◌≤◌, ◌⊎◌, ◌∙◌, refl, sym, ap, inl, inr, arith}
 
 -- n is even, or odd
 halves : (n : ℕ) → ((a : ℕ) × (n ≡ 2 * a)) ⊎ ((a : ℕ) × (n ≡ 2 * a + 1))

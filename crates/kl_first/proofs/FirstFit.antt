@@ -1,6 +1,6 @@
 -- The input of an object of one text section is fit to be linked.
-use Rattle.std.proofs.Common.{◌≡◌, ℕ, zero, suc, ◌+◌, ◌-◌, ◌*◌, ◌/◌, ◌%◌, ◌^◌, ◌≤◌, ◌<◌, ◌≢◌, ◌∙◌, Bool, true, false, not, ◌&&◌, List, [], ◌∷◌, length, take, drop, get_or, refl, sym, ap, inl, inr, arith, length-take, length-drop}
-use Rattle.std.specs.Prelude.{All, AllPairs, codes, ◌==◌, nat_le}
+use Rattle.std.proofs.Common.{◌≡◌, ℕ, zero, suc, ◌+◌, ◌-◌, ◌^◌, ◌≤◌, ◌<◌, ◌≢◌, ◌∙◌, Bool, true, false, not, ◌&&◌, List, [], ◌∷◌, length, take, drop, get_or, refl, sym, inr, arith, length-take, length-drop}
+use Rattle.std.specs.Prelude.{All, codes, ◌==◌}
 use Rattle.std.specs.Str.{bytes_eq}
 use Rattle.std.specs.List.{AllWithin, list_any, position_or_len}
 use Rattle.std.proofs.lemmas.Bool.{eqb-false}
@@ -8,11 +8,9 @@ use Rattle.std.proofs.lemmas.List.{get_or-take}
 use Rattle.std.proofs.lemmas.List.Sums.{fails_before_first, prefix_len-le-length}
 use Rattle.kl_le.specs.Bytes.{text}
 use Rattle.kl_elf.specs.declared.records.Shdr.{Shdr}
-use Rattle.kl_elf.specs.declared.records.Sym.{Sym}
-use Rattle.kl_model.specs.Fit.{AreFit, AreFitSymbols, IsAlignment, IsFit, IsFitAllocated, IsFitSection, IsFitSymbol, IsName}
+use Rattle.kl_model.specs.Fit.{AreFit, IsFit, IsFitSection, IsFitSymbol, IsName}
 use Rattle.kl_model.specs.Kept.{no_symbol}
-use Rattle.kl_model.specs.Texts.{text_at, has}
-use Rattle.kl_model.specs.declared.object.Section.{Section}
+use Rattle.kl_model.specs.Texts.{has}
 use Rattle.kl_model.specs.declared.object.Symbol.{Symbol}
 use Rattle.kl_first.specs.ObjectFile.{is_first_object, section_header, entry_symbol, is_entry, is_null_symbol, ends_in, is_text_header, is_symbol_table, is_string_table, is_zero, string_in, section_of, symbol_of, input_of}
 use Rattle.kl_first.proofs.Divisors.{divisor}
@@ -43,9 +41,9 @@ name_of b table place e =
     record {
       inside = omega (arith, inside, dropped, taken);
       no_zero = rw (text_at-string_in b table place) (λ k d h.
-        (let same = get_or-take n xs k d (omega (arith, h, taken)) in
-        let other = eqb-false (get_or xs k d) 0 (fails_before_first (λ c. c == 0) xs k d (omega (arith, h, taken))) in
-        λ zero_here. other (sym same ∙ zero_here)));
+          (let same = get_or-take n xs k d (omega (arith, h, taken)) in
+          let other = eqb-false (get_or xs k d) 0 (fails_before_first (λ c. c == 0) xs k d (omega (arith, h, taken))) in
+          λ zero_here. other (sym same ∙ zero_here)));
     }
 
 one : {X : Type 0} (P : X → Type 0) (x : X) → P x → All P (x ∷ [])
@@ -120,7 +118,7 @@ input-fit b symbol e small =
     let symbols_fit = plain_section b names symbols (table_flags symbols (and_right (is_text_header code) (is_symbol_table symbols) ab)) (and_right n1 n2 named2) in
     let strings_fit = plain_section b names strings (strings_flags strings (and_right (is_text_header code && is_symbol_table symbols) (is_string_table strings) abc)) (and_right (n1 && n2) n3 named3) in
     let names_fit = plain_section b names names
-        (strings_flags names (and_right (is_text_header code && is_symbol_table symbols && is_string_table strings) (is_string_table names) p.sections)) (and_right (n1 && n2 && n3) n4 named4) in
+    (strings_flags names (and_right (is_text_header code && is_symbol_table symbols && is_string_table strings) (is_string_table names) p.sections)) (and_right (n1 && n2 && n3) n4 named4) in
     let global = entry.global in let here = entry.here in let inside = entry.inside in let code_lies = lies.code_lies in
     let fit_symbol : IsFitSymbol b 4 (symbol_of b strings (entry_symbol b)) = record {
       name = name_of b strings (entry_symbol b).name entry.ends;

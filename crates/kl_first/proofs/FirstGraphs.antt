@@ -1,12 +1,10 @@
 -- The graph of the first form.
-use Rattle.std.proofs.Common.{ℕ, ◌≡◌, ◌+◌, ◌*◌, ◌<◌, ◌≤◌, ◌∙◌, List, [], ◌∷◌, ◌++◌, length, refl, ap, sym, arith, rules, Bool, true, false, Option}
-use Rattle.std.specs.Prelude.{Some, None, codes, max}
+use Rattle.std.proofs.Common.{ℕ, ◌≡◌, List, [], ◌∷◌, refl, rules, true}
+use Rattle.std.specs.Prelude.{Some, max}
 use Rattle.std.specs.Str.{bytes_eq}
 use Rattle.std.proofs.lemmas.Slice.Eq.{bytes_eq-Decides}
 use Rattle.kl_model.specs.Texts.{text_at}
-use Rattle.kl_model.specs.Kept.{no_symbol, is_kept}
-use Rattle.kl_model.specs.Names.{definition}
-use Rattle.kl_model.specs.Graphs.{graph, section_pieces, common_pieces}
+use Rattle.kl_model.specs.Graphs.{graph}
 use Rattle.kl_base.specs.declared.class.Class.TheVariants.{Text}
 use Rattle.kl_model.specs.declared.object.Part.TheVariants.{Head}
 use Rattle.kl_model.specs.declared.graph.PieceId.TheVariants as id
@@ -16,7 +14,7 @@ use Rattle.kl_model.specs.declared.object.Section.{Section}
 use Rattle.kl_model.specs.declared.object.Symbol.{Symbol}
 use Rattle.kl_model.specs.declared.object.Input.{Input}
 use Rattle.kl_model.specs.declared.kit.Kit.{Kit}
-use Rattle.kl_first.proofs.Forms.{FirstForm, IsText}
+use Rattle.kl_first.proofs.Forms.{FirstForm}
 
 -- the graph: one piece, and the entry in it
 abbrev pub first_graph : Section → Symbol → Graph

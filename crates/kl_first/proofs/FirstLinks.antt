@@ -1,6 +1,6 @@
 -- A kit of one object with one text section links.
-use Rattle.std.proofs.Common.{◌≡◌, ℕ, zero, suc, ◌+◌, ◌-◌, ◌*◌, ◌/◌, ◌%◌, ◌^◌, ◌≤◌, ◌<◌, ◌∙◌, Bool, true, false, List, [], ◌∷◌, ◌++◌, length, refl, sym, ap, arith}
-use Rattle.std.specs.Prelude.{Some, None, max, slice_get, IsTrue, nat_lt}
+use Rattle.std.proofs.Common.{◌≡◌, ℕ, zero, suc, ◌+◌, ◌-◌, ◌*◌, ◌^◌, ◌≤◌, ◌<◌, ◌∙◌, true, List, [], ◌∷◌, ◌++◌, length, refl, sym, ap, arith}
+use Rattle.std.specs.Prelude.{None, max, slice_get}
 use Rattle.std.proofs.Math.Nat.{max-eq_left, zero-mul}
 use Rattle.std.proofs.lemmas.Bool.{le-ltb}
 use Rattle.std.proofs.lemmas.Nat.{div-mul-add}
@@ -14,8 +14,6 @@ use Rattle.kl_model.specs.Simple.{is_simple}
 use Rattle.kl_model.specs.Texts.{text_at}
 use Rattle.kl_model.specs.declared.object.Input.{Input}
 use Rattle.kl_model.specs.declared.kit.Kit.{Kit}
-use Rattle.kl_model.specs.declared.link.LinkFault.{LinkFault}
-use Rattle.kl_model.proofs.Addresses.{le-up_page, up_page-lt}
 use Rattle.kl_first.specs.KitText.{kit_of}
 use Rattle.kl_first.specs.Links.{Links}
 use Rattle.kl_first.specs.ObjectFile.{is_first_object, input_of}

@@ -1,5 +1,5 @@
 -- Kits that link without a fault.
-use Rattle.std.specs.Prelude.{ℕ, ◌≡◌, List, [], map, None, IsTrue}
+use Rattle.std.specs.Prelude.{◌≡◌, List, [], map, None, IsTrue}
 use Rattle.kl_model.specs.Faults.{link_fault}
 use Rattle.kl_model.specs.Fit.{AreFit, IsKernelKit}
 use Rattle.kl_model.specs.Orders.{IsOrder, drawn_count}
