@@ -1,6 +1,7 @@
-"""What relink is to answer for one object, read from docs/formats.md alone: its first flaw, whether it is linked so far, and the image.
+"""What relink is to answer for one object, by the tables of docs/formats.md and the rules of docs/definitions.md: its first flaw,
+whether it is linked so far, the first fault of its link, and the image.
 
-The program is compared with this reading, so it is written for a reader and not for speed, and shares nothing with the program.
+The program is compared with this second reading of the documents, which shares nothing with it and is written to be read.
 """
 
 BASE = 0xFFFFFFFF81000000
