@@ -2,3 +2,4 @@ pub mod Written
 pub mod Refused
 pub mod Said
 pub mod SmallInputs
+pub mod OneInput

@@ -1,6 +1,9 @@
-use crate::{Cause, Exit, KitCause, run};
-use kl_base::Name;
-use kl_store::{FlatStore, ListEntropy, VecSink};
+use crate::{Cause, Exit, KitCause, ObjectCause, run};
+use kl_base::{Listed, Name};
+use kl_elf::HeadFault;
+use kl_mem::{ListEntropy, MemStore, VecSink};
+use kl_model::LinkFault;
+use kl_rel::{Feature, ReadFault, ReadKind};
 use std::alloc::Global;
 use std::test::Fail;
 
@@ -57,7 +60,7 @@ fn object(alloc: Global) -> Result<Vec<u8>, Fail> {
 }
 
 /// The answer to words over a store, with what was written to the sink.
-fn answer(alloc: Global, words: &[&[u8]], store: &mut FlatStore) -> Result<(Exit, VecSink), Fail> {
+fn answer(alloc: Global, words: &[&[u8]], store: &mut MemStore) -> Result<(Exit, VecSink), Fail> {
     let mut given = Vec::new(alloc);
     for word in words {
         given.push(Vec::from_slice(alloc, word)?)?;
@@ -69,8 +72,8 @@ fn answer(alloc: Global, words: &[&[u8]], store: &mut FlatStore) -> Result<(Exit
 }
 
 /// A store with a kit text and an object in the folder `/kit`.
-fn kit_store(alloc: Global, text: &[u8], object: &[u8]) -> Result<FlatStore, Fail> {
-    let mut store = FlatStore::new(alloc);
+fn kit_store(alloc: Global, text: &[u8], object: &[u8]) -> Result<MemStore, Fail> {
+    let mut store = MemStore::new(alloc);
     store.put(&named(b"/kit/link.conf")?, text)?;
     store.put(&named(b"/kit/k.o")?, object)?;
     Ok(store)
@@ -114,7 +117,7 @@ fn tells_usage(rt: HostRuntime) -> Result<(), Fail> {
         &[b"reorder_kernel", b"/kit"],
     ];
     for words in cases {
-        let mut store = FlatStore::new(alloc);
+        let mut store = MemStore::new(alloc);
         store.fail_at(0, false)?;
         let (exit, out) = answer(alloc, words, &mut store)?;
         assert_eq!(rt;
@@ -148,17 +151,53 @@ fn refuses_other_forms(rt: HostRuntime) -> Result<(), Fail> {
             "at {text:?}"
         );
     }
-    // the machine; a second allocated section; a relocation section; the symbol past its section; its name
-    let flips = [(18, 3), (296, 2), (356, 4), (104, 4), (121, b'S')];
-    for (at, byte) in flips {
+    // an archive
+    let archive: &[u8] = b"!<arch>\n";
+    let mut store = kit_store(alloc, KIT, archive)?;
+    let (exit, _) = answer(alloc, &[b"link", b"/kit"], &mut store)?;
+    assert_eq!(rt; (exit.status, exit.cause), (19, Cause::NotYet));
+    Ok(())
+}
+
+#[test]
+fn tells_flaws_of_an_object(rt: HostRuntime) -> Result<(), Fail> {
+    let alloc = rt.alloc();
+    // the machine; an allocated symbol table
+    let flips = [
+        (18, 3, ReadKind::Head(HeadFault::Machine), 18),
+        (296, 2, ReadKind::Unsupported(Feature::SectionType), 292),
+    ];
+    for (place, byte, kind, at) in flips {
         let mut bad = object(alloc)?;
-        assert!(rt; at < bad.len());
-        bad[at] = byte;
+        assert!(rt; place < bad.len());
+        bad[place] = byte;
         let mut store = kit_store(alloc, KIT, &bad)?;
         let (exit, _) = answer(alloc, &[b"link", b"/kit"], &mut store)?;
-        assert_eq!(rt; (exit.status, exit.cause), (19, Cause::NotYet), "at {at}");
+        let fault = ObjectCause::Elf(ReadFault { kind, at });
+        let cause = Cause::Object {
+            input: 0,
+            line: 4,
+            fault,
+        };
+        assert_eq!(rt; (exit.status, exit.cause), (13, cause));
         assert_eq!(rt; store.get(&named(b"/kit/linked.relink")?), None);
     }
+    Ok(())
+}
+
+#[test]
+fn tells_the_fault_of_a_link(rt: HostRuntime) -> Result<(), Fail> {
+    let alloc = rt.alloc();
+    let mut other = object(alloc)?;
+    assert!(rt; 121 < other.len());
+    other[121] = b'S';
+    let mut store = kit_store(alloc, KIT, &other)?;
+    let (exit, _) = answer(alloc, &[b"link", b"/kit"], &mut store)?;
+    let name = Listed::from_vec(Vec::from_slice(alloc, b"start")?);
+    assert_eq!(rt;
+        (exit.status, exit.cause),
+        (14, Cause::Link(LinkFault::NoEntry { name }))
+    );
     Ok(())
 }
 
@@ -166,16 +205,18 @@ fn refuses_other_forms(rt: HostRuntime) -> Result<(), Fail> {
 fn tells_absent_and_long_files(rt: HostRuntime) -> Result<(), Fail> {
     let alloc = rt.alloc();
     let conf = named(b"/kit/link.conf")?;
-    let mut store = FlatStore::new(alloc);
+    let mut store = MemStore::new(alloc);
     let (exit, _) = answer(alloc, &[b"link", b"/kit"], &mut store)?;
     assert_eq!(rt;
         (exit.status, exit.cause),
         (12, Cause::Kit(KitCause::Absent(conf)))
     );
+    let mut store = MemStore::new(alloc);
     store.put(&conf, KIT)?;
     let (exit, _) = answer(alloc, &[b"link", b"/kit"], &mut store)?;
     let absent = KitCause::Absent(named(b"/kit/k.o")?);
     assert_eq!(rt; (exit.status, exit.cause), (12, Cause::Kit(absent)));
+    let mut store = MemStore::new(alloc);
     store.put(&conf, &vec![in alloc; b'#'; 4_194_305]?)?;
     let (exit, _) = answer(alloc, &[b"link", b"/kit"], &mut store)?;
     assert_eq!(rt;

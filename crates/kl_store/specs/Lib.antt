@@ -1,9 +1,8 @@
 pub mod Names
+pub mod Disk
 pub mod Meaning
+pub mod Images
 pub mod Calls
 pub mod Outside
 pub mod Files
-pub mod FileMap
 pub mod Counts
-pub mod Flat
-pub mod Lists

@@ -13,7 +13,7 @@ pub struct Failed;
 /// Files under names, with no folders. A failed call may have made its change, an append
 /// a part of it, and makes no other; the store can be used after it.
 pub trait Store {
-    /// What the store tells: its names, and what each of them holds.
+    /// What the store tells: its names, its disk, and what a crash may have left of it.
     ghost meaning: { Self → Meaning };
 
     /// How many calls have failed, up to 2^64 - 1.

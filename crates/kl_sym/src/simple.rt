@@ -181,8 +181,9 @@ fn has_no_lines(kit: &Kit) -> bool
     kit.runs.items().is_empty() && kit.edges.items().is_empty() && kit.drops.items().is_empty()
 }
 
-/// Whether a kit is simple: a kernel's kit without `run`, `edge` and `drop` lines, whose inputs have no allocated sections
-/// but text, no names but LOCAL and GLOBAL ones, and no fields in text but those of the types NONE, 64, PC32 and PLT32.
+/// Whether a kit is simple: a kernel's kit without `run`, `edge` and `drop` lines, whose inputs have no allocated sections but
+/// text that is in no area, no symbols but LOCAL ones and GLOBAL ones of DEFAULT visibility that are no commons, no COMDAT
+/// groups, and in text no fields but those of the types NONE, 64, PC32 and PLT32, and of types that aren't linked.
 #[tactic(auto, unfolding(kl_model::specs::Simple::is_simple))]
 pub fn is_simple(kit: &Kit, inputs: &[Input]) -> bool
     ensures { result ≡ is_simple kit.now inputs.now }

@@ -1,0 +1,4 @@
+pub mod Cuts
+pub mod SoFar
+pub mod Spelled
+pub mod Grammar

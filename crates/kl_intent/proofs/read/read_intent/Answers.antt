@@ -1,0 +1,11 @@
+use Rattle.kl_intent.proofs.Grammar.{entries_read, text_read, refused_text}
+use Rattle.kl_intent.proofs.read.read_intent.Goals as goal
+
+pub returns-clause-entries : goal.returns-clause-entries
+returns-clause-entries c = entries_read c.args.bytes.now c.parse.result c.parse.ensures
+
+pub returns-clause-text : goal.returns-clause-text
+returns-clause-text c = text_read c.args.bytes.now c.parse.result c.parse.ensures
+
+pub returns-clause-refused : goal.returns-clause-refused
+returns-clause-refused c = refused_text c.args.bytes.now c.parse.result c.parse.ensures

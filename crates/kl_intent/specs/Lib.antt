@@ -1,0 +1,2 @@
+pub mod IntentText
+pub mod Reading

@@ -1,0 +1,17 @@
+-- What the reader answers.
+use Rattle.std.specs.Prelude.{◌≡◌, ◌≤◌, ℕ, List, length, Result, Ok, Err}
+use Rattle.kl_base.specs.declared.class.Slot.{Slot}
+use Rattle.kl_intent.specs.declared.intent.Entry.{Entry}
+use Rattle.kl_intent.specs.declared.intent.Intent.{Intent}
+use Rattle.kl_intent.specs.declared.read.IntentFault.{IntentFault}
+use Rattle.kl_intent.specs.IntentText.{entries_of, intent_text, AreEntries}
+
+-- it answers these entries, or that line
+abbrev pub ReadsEntries : Slot → Result Intent IntentFault → Result (List Entry) ℕ → Type 0
+ReadsEntries slot (Ok i) read = (read ≡ Ok (entries_of i)) × (i.slot ≡ slot) × (i.count ≤ 8)
+ReadsEntries slot (Err f) read = read ≡ Err f.line
+
+-- it answers this slot with these entries, or that line
+abbrev pub Reads : Result Intent IntentFault → Result (Slot × List Entry) ℕ → Type 0
+Reads (Ok i) read = (read ≡ Ok (i.slot, entries_of i)) × (i.count ≤ 8)
+Reads (Err f) read = read ≡ Err f.line

@@ -1,0 +1,68 @@
+// An intent in memory.
+ghost use Rattle.std.specs.Prelude.{◌≡◌, ◌<◌, ◌≤◌, ◌++◌, ◌∷◌, ◌+◌, [], length};
+ghost use Rattle.kl_intent.specs.IntentText.{entries_of, slot_name};
+
+use kl_base::{Name, Slot};
+
+/// A file that is replaced: its target, the SHA-256 digest of what the target held, if it was there,
+/// and the digest of what it is to hold.
+#[derive(Clone, Copy, Debug, PartialEq)]
+pub struct Entry {
+    pub target: Name,
+    pub old: Option<[u8; 32]>,
+    pub new: [u8; 32],
+}
+
+/// The files of one batch, of which the first `count` of `entries` are meant, from 1 to 8.
+#[derive(Clone, Copy, Debug)]
+pub struct Intent {
+    pub slot: Slot,
+    pub count: u8,
+    pub entries: [Entry; 8],
+}
+
+/// The name of the file in which the intents of the slot's job stand.
+pub fn slot_name(slot: Slot) -> Name
+    ensures { result ≡ slot_name slot }
+{
+    match slot {
+        Slot::Kernel => Name::from_bytes(b"/var/db/relink.kernel.intent").unwrap(),
+        Slot::Libs => Name::from_bytes(b"/var/db/relink.libs.intent").unwrap(),
+    }
+}
+
+/// The intent of the slot with no entry.
+pub fn no_entries(slot: Slot) -> Intent
+    ensures slot { result.slot ≡ slot }
+    ensures count { result.count ≡ 0 }
+{
+    let blank = Entry {
+        target: slot_name(slot),
+        old: None,
+        new: [0; 32],
+    };
+    Intent {
+        slot,
+        count: 0,
+        entries: [blank; 8],
+    }
+}
+
+/// Adds an entry behind the others.
+pub fn add(intent: &mut Intent, entry: Entry)
+    requires { intent.old.count < 8 }
+    ensures slot { intent.new.slot ≡ intent.old.slot }
+    ensures count { intent.new.count ≡ intent.old.count + 1 }
+    ensures entries { entries_of intent.new ≡ entries_of intent.old ++ entry ∷ [] }
+{
+    intent.entries[intent.count as usize] = entry;
+    intent.count += 1;
+}
+
+/// The entries that are meant.
+pub fn entries(intent: &Intent) -> &[Entry]
+    requires { intent.now.count ≤ 8 }
+    ensures { result.now ≡ entries_of intent.now }
+{
+    &intent.entries[..intent.count as usize]
+}

@@ -1,0 +1,16 @@
+//! The intent of an installation: which files are replaced, what they held and what they are to hold, as a text of one
+//! spelling.
+#![tactic(auto)]
+
+mod digests;
+mod intent;
+mod print;
+mod read;
+mod words;
+
+pub use intent::{Entry, Intent, add, entries, no_entries, slot_name};
+pub use print::print_intent;
+pub use read::{IntentFault, read_intent};
+
+#[cfg(test)]
+mod tests;
