@@ -1,30 +1,69 @@
 -- Which files are not refused, and what is read of them.
-use Rattle.std.proofs.Common.{◌≡◌, ℕ, ◌≤◌, ◌<◌, Bool, true, false, List, [], ◌∷◌, length, get_or, refl, sym, ap, ◌∙◌, arith, Option}
-use Rattle.std.specs.Prelude.{Some, None, codes, is_some}
-use Rattle.kl_model.specs.declared.object.Input.{Input}
+use Rattle.std.proofs.Common.{◌≡◌, ℕ, ◌≤◌, ◌<◌, Bool, true, false, List, [], ◌∷◌, length, get_or, refl, sym, ◌∙◌, subst, arith, Option}
+use Rattle.std.specs.Prelude.{Some, None, codes}
+use Rattle.std.specs.Option.{option_map, option_or}
 use Rattle.std.specs.FinMap.{get}
 use Rattle.std.specs.Str.{bytes_eq}
 use Rattle.std.proofs.lemmas.Bool.{le-ltb, lt-leb}
 use Rattle.std.specs.Prelude.{Vec}
 use Rattle.std.specs.declared.alloc.Global.{Global}
 use Rattle.kl_store.specs.Names.{Names}
-use Rattle.kl_first.specs.KitText.{first_kit}
-use Rattle.kl_first.specs.ObjectFile.{is_first_object}
+use Rattle.kl_model.specs.declared.object.Object.{Object}
+use Rattle.kl_model.specs.declared.object.Part.TheVariants.{Head}
+use Rattle.kl_rel.specs.Flaws.{IsAnswer}
+use Rattle.kl_rel.specs.declared.fault.ReadError.{ReadError}
+use Rattle.kl_rel.specs.declared.fault.ReadError.TheVariants.{Flaw}
+use Rattle.kl_rel.specs.Objects.{flaw, object}
+use Rattle.kl_rel.specs.declared.fault.ReadFault.{ReadFault}
+use Rattle.kl_first.specs.KitText.{first_kit, kit_of}
 use Rattle.kl_cli.specs.Commands.{command_of, link_of}
+use Rattle.kl_cli.specs.Answers.{link_refusal, input_refusal, kit_refusal, bytes_refusal, file_fault, is_archive, over_limit, flaw_cause, total_cause, input_of, kit_text, below, kit_text_limit, input_limit, texts}
 use Rattle.kl_cli.specs.declared.exit.Cause.{Cause}
-use Rattle.kl_cli.specs.Answers.{link_refusal, file_fault, kit_text, below, kit_text_limit, input_limit, texts}
+use Rattle.kl_cli.specs.declared.exit.Cause.TheVariants.{NotYet}
+use Rattle.kl_cli.specs.declared.exit.TotalOf.{TotalOf}
 
--- a folder whose files have the forms isn't refused
-pub link_refusal-none : (m : Names) (dir text bytes entry file : List ℕ) → get m (kit_text dir) ≡ Some text → length text ≤ kit_text_limit
-    → first_kit text ≡ Some (entry, file) → get m (below dir file) ≡ Some bytes → length bytes ≤ input_limit → is_first_object bytes entry ≡ true
-    → link_refusal m dir ≡ None
-link_refusal-none m dir text bytes entry file e1 h1 e2 e3 h2 e4 =
-    rw (e1, le-ltb kit_text_limit (length text) h1, e2, e3, le-ltb input_limit (length bytes) h2, e4) refl
+-- what refuses the bytes of an input
+pub archive_refused : (b : List ℕ) (r : Bool) → r ≡ is_archive b → r ≡ true → bytes_refusal b ≡ Some NotYet
+unfolding bytes_refusal
+archive_refused b r e is = let archive : is_archive b ≡ true = sym e ∙ is in rw archive refl
 
--- a folder whose text has the form is refused as its input's file is
-pub later_refused : (m : Names) (dir text entry file : List ℕ) (c : Cause) → get m (kit_text dir) ≡ Some text → length text ≤ kit_text_limit → first_kit text ≡ Some (entry, file)
-    → file_fault m (below dir file) input_limit ≡ Some c → link_refusal m dir ≡ Some c
-later_refused m dir text entry file c e1 h1 e2 e3 = rw (e1, le-ltb kit_text_limit (length text) h1, e2, e3) refl
+pub flaw_refused : (b : List ℕ) (r : Bool) (a : ReadError) (f : ReadFault) → r ≡ is_archive b → r ≡ false → a ≡ Flaw f → IsAnswer (flaw b) a → bytes_refusal b ≡ Some (flaw_cause f)
+unfolding bytes_refusal
+flaw_refused b r a f e is same answer =
+    let stands : flaw b ≡ Some f = subst (IsAnswer (flaw b)) same answer in
+    let plain : is_archive b ≡ false = sym e ∙ is in rw (plain, stands) refl
+
+-- what an input has too much of is seen by its object
+same_limit : (b : List ℕ) (x : Object) → x ≡ object b → over_limit (input_of b) ≡ over_limit (record { place = Head; bytes = b; object = x })
+same_limit b x e = rw e refl
+
+pub limit_refused : (b : List ℕ) (r : Bool) (x : Object) (o : Option TotalOf) → r ≡ is_archive b → r ≡ false → flaw b ≡ None → x ≡ object b
+    → o ≡ over_limit (record { place = Head; bytes = b; object = x }) → bytes_refusal b ≡ option_map total_cause o
+unfolding bytes_refusal
+limit_refused b r x o e is sound same limit =
+    let plain : is_archive b ≡ false = sym e ∙ is in
+    let over : over_limit (input_of b) ≡ o = same_limit b x same ∙ sym limit in
+    rw (plain, sound, over) (known o)
+  where
+    known : (o : Option TotalOf) → option_or None (option_map total_cause o) ≡ option_map total_cause o
+    known None = refl
+    known (Some what) = refl
+
+-- a folder whose kit text is read is refused for its input
+pub refused_input : (m : Names) (dir text entry file : List ℕ) → get m (kit_text dir) ≡ Some text → length text ≤ kit_text_limit
+    → first_kit text ≡ Some (entry, file) → link_refusal m dir ≡ input_refusal m dir (entry, file)
+refused_input m dir text entry file e h first = rw (e, le-ltb kit_text_limit (length text) h, first) refl
+
+pub refused_file : (m : Names) (dir entry file : List ℕ) (c : Cause) → file_fault m (below dir file) input_limit ≡ Some c → input_refusal m dir (entry, file) ≡ Some c
+refused_file m dir entry file c e = rw e refl
+
+-- and then for the bytes of the input, and for the kit
+pub refused_bytes : (m : Names) (dir entry file bytes : List ℕ) → get m (below dir file) ≡ Some bytes → length bytes ≤ input_limit
+    → input_refusal m dir (entry, file) ≡ option_or (bytes_refusal bytes) (kit_refusal (kit_of entry file) (input_of bytes ∷ []))
+refused_bytes m dir entry file bytes e h = rw (e, le-ltb input_limit (length bytes) h) refl
+
+pub first_refusal : (o p : Option Cause) (c : Cause) → o ≡ Some c → option_or o p ≡ Some c
+first_refusal o p c e = rw e refl
 
 -- two words are a command where the first is `link` and the second a folder, and others are none
 pub not_two : (words : List (Vec ℕ Global)) → (length words ≡ 2 → ⊥) → None ≡ command_of (texts words)
@@ -46,7 +85,3 @@ long_folder word dir h = go (bytes_eq word (codes "link")) refl
     go : (b : Bool) → bytes_eq word (codes "link") ≡ b → None ≡ link_of word dir
     go true e = rw (e, lt-leb (length dir) 127 h) refl
     go false e = rw e refl
-
--- bytes of which an input was read are an object of the form
-pub read_object : (x : Input) (o : Option Input) (bytes entry : List ℕ) → o ≡ Some x → is_some o ≡ is_first_object bytes entry → is_first_object bytes entry ≡ true
-read_object x o bytes entry there same = sym same ∙ ap is_some there

@@ -8,6 +8,7 @@ use Rattle.kl_store.specs.Calls.{HasCause}
 use Rattle.kl_cli.specs.Answers.{Says, said, usage_line}
 use Rattle.kl_cli.specs.declared.exit.Cause.{Cause}
 use Rattle.kl_cli.specs.declared.exit.Cause.TheVariants.{Done, Usage, NoMemory, Store, Kit, NotYet}
+use Rattle.kl_cli.specs.declared.exit.Cause.TheVariants as cause
 
 nothing : (o : Option (List ℕ)) → o ≡ option_map (λ taken. taken ++ []) o
 nothing None = refl
@@ -23,6 +24,8 @@ says_nothing c a faults other = record { part = 0; taken = record { bytes = noth
     none NoMemory other = omega arith
     none Store other = omega arith
     none (Kit k) other = omega arith
+    none (cause.Object input line f) other = omega arith
+    none (cause.Link f) other = omega arith
     none NotYet other = omega arith
 
 pub says_usage : {T E : Type 0} {a b : Taken} (before now : ℕ) (r : Result T E) → Writes usage_line a b r → HasCause before now r → Says Usage a b before now

@@ -1,6 +1,7 @@
 -- What a command answers: each cause with its status, and the first refusal that stands in the words and the files.
-use Rattle.std.specs.Prelude.{ℕ, ◌≡◌, ◌≤◌, ◌⊎◌, take, cond, nat_lt, List, [], ◌∷◌, ◌++◌, length, codes, map, Option, Some, None, unwrap_or}
-use Rattle.std.specs.Option.{ForSome, option_or}
+use Rattle.std.specs.Prelude.{ℕ, ◌≡◌, ◌≤◌, ◌⊎◌, ◌^◌, Bool, take, cond, nat_lt, List, [], ◌∷◌, ◌++◌, length, codes, map, nat_eq, Option, Some, None, unwrap_or}
+use Rattle.std.specs.Option.{ForSome, option_map, option_or}
+use Rattle.std.specs.List.{starts_with}
 use Rattle.std.specs.FinMap.{get}
 use Rattle.kl_store.specs.Names.{Names}
 use Rattle.kl_store.specs.Meaning.{Meaning}
@@ -8,14 +9,24 @@ use Rattle.kl_store.specs.Outside.{Taken, Takes}
 use Rattle.kl_store.specs.Calls.{Rose}
 use Rattle.std.specs.declared.vec.Vec.{Vec}
 use Rattle.std.specs.declared.alloc.Global.{Global}
-use Rattle.kl_first.specs.KitText.{first_kit}
-use Rattle.kl_first.specs.ObjectFile.{is_first_object}
+use Rattle.kl_model.specs.Faults.{link_fault}
+use Rattle.kl_model.specs.Simple.{is_simple}
+use Rattle.kl_model.specs.declared.kit.Kit.{Kit}
+use Rattle.kl_model.specs.declared.object.Input.{Input}
+use Rattle.kl_model.specs.declared.object.Part.TheVariants.{Head}
+use Rattle.kl_rel.specs.Objects.{flaw, object}
+use Rattle.kl_rel.specs.declared.fault.ReadFault.{ReadFault}
+use Rattle.kl_first.specs.KitText.{first_kit, kit_of}
 use Rattle.kl_cli.specs.Commands.{command_of}
 use Rattle.kl_cli.specs.declared.command.Command.{Command}
 use Rattle.kl_cli.specs.declared.command.Command.TheVariants.{Link}
 use Rattle.kl_cli.specs.declared.exit.Cause.{Cause}
-use Rattle.kl_cli.specs.declared.exit.Cause.TheVariants.{Done, Usage, NoMemory, Store, Kit, NotYet}
-use Rattle.kl_cli.specs.declared.exit.KitCause.TheVariants.{Absent, TooLong}
+use Rattle.kl_cli.specs.declared.exit.Cause.TheVariants.{Done, Usage, NoMemory, Store, NotYet}
+use Rattle.kl_cli.specs.declared.exit.Cause.TheVariants as cause
+use Rattle.kl_cli.specs.declared.exit.KitCause.TheVariants.{Absent, TooLong, Total}
+use Rattle.kl_cli.specs.declared.exit.ObjectCause.TheVariants.{Elf}
+use Rattle.kl_cli.specs.declared.exit.TotalOf.{TotalOf}
+use Rattle.kl_cli.specs.declared.exit.TotalOf.TheVariants.{Sections, Symbols, Fields}
 
 -- the status of each cause
 abbrev pub status_of : Cause → ℕ
@@ -23,7 +34,9 @@ status_of Done = 0
 status_of Usage = 2
 status_of NoMemory = 3
 status_of Store = 4
-status_of (Kit c) = 12
+status_of (cause.Kit c) = 12
+status_of (cause.Object input line f) = 13
+status_of (cause.Link f) = 14
 status_of NotYet = 19
 
 -- the names of a kit's text and of a file below its folder
@@ -46,17 +59,46 @@ held m name = unwrap_or (get m name) []
 
 -- why a file isn't read: the name is absent, or its file is longer than the limit
 abbrev pub fault_of : List ℕ → ℕ → Option (List ℕ) → Option Cause
-fault_of name limit None = Some (Kit (Absent name))
-fault_of name limit (Some bytes) = cond (nat_lt limit (length bytes)) (Some (Kit (TooLong name))) None
+fault_of name limit None = Some (cause.Kit (Absent name))
+fault_of name limit (Some bytes) = cond (nat_lt limit (length bytes)) (Some (cause.Kit (TooLong name))) None
 
 abbrev pub file_fault : Names → List ℕ → ℕ → Option Cause
 file_fault m name limit = fault_of name limit (get m name)
 
--- the first refusal of an input, whose object has to define the entry
+-- an archive, by its first eight bytes
+abbrev pub is_archive : List ℕ → Bool
+is_archive b = starts_with nat_eq b (codes "!<arch>" ++ 10 ∷ [])
+
+-- the head input whose file has these bytes
+abbrev pub input_of : List ℕ → Input
+input_of b = record { place = Head; bytes = b; object = object b }
+
+-- what an input has too much of for a kit
+abbrev pub over_limit : Input → Option TotalOf
+over_limit x =
+    cond (nat_lt (2 ^ 20) (length x.object.sections)) (Some Sections)
+    (cond (nat_lt (2 ^ 22) (length x.object.symbols)) (Some Symbols)
+    (cond (nat_lt (2 ^ 23) (length x.object.fields)) (Some Fields) None))
+
+-- the first refusal of the bytes of input 0, which stands in line 4 of the kit text
+abbrev pub flaw_cause : ReadFault → Cause
+flaw_cause f = cause.Object 0 4 (Elf f)
+
+abbrev pub total_cause : TotalOf → Cause
+total_cause what = cause.Kit (Total what 4)
+
+unfoldable pub bytes_refusal : List ℕ → Option Cause
+bytes_refusal b = cond (is_archive b) (Some NotYet) (option_or (option_map flaw_cause (flaw b)) (option_map total_cause (over_limit (input_of b))))
+
+-- the first refusal of a kit whose inputs are read
+abbrev pub kit_refusal : Kit → List Input → Option Cause
+kit_refusal kit inputs = cond (is_simple kit inputs) (option_map cause.Link (link_fault kit inputs None [])) (Some NotYet)
+
+-- the first refusal of an input, and then of the kit
 abbrev pub input_refusal : Names → List ℕ → List ℕ × List ℕ → Option Cause
 input_refusal m dir (entry, file) =
-    option_or (file_fault m (below dir file) input_limit)
-    (cond (is_first_object (held m (below dir file)) entry) None (Some NotYet))
+    let b = held m (below dir file) in
+    option_or (file_fault m (below dir file) input_limit) (option_or (bytes_refusal b) (kit_refusal (kit_of entry file) (input_of b ∷ [])))
 
 -- the first refusal of a kit text
 abbrev pub text_refusal : Names → List ℕ → Option (List ℕ × List ℕ) → Option Cause

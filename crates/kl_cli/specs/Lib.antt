@@ -2,3 +2,4 @@ pub mod Commands
 pub mod Answers
 pub mod Links
 pub mod Writing
+pub mod Small

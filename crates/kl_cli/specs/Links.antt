@@ -1,16 +1,19 @@
 -- What a link leaves.
-use Rattle.std.specs.Prelude.{ℕ, ◌≡◌, true, List, [], ◌∷◌, replicate, Option, Some, None}
+use Rattle.std.specs.Prelude.{ℕ, ◌≡◌, List, [], ◌∷◌, map, replicate, IsTrue, Option, Some, None}
 use Rattle.std.specs.Option.{ForSome}
 use Rattle.kl_store.specs.Names.{Names}
 use Rattle.kl_store.specs.Meaning.{Meaning}
 use Rattle.kl_model.specs.Carries.{Carries}
+use Rattle.kl_model.specs.Fit.{AreFit, IsKernelKit}
+use Rattle.kl_model.specs.Orders.{IsOrder, drawn_count}
+use Rattle.kl_model.specs.Simple.{is_simple}
 use Rattle.kl_model.specs.declared.kit.Kit.{Kit}
 use Rattle.kl_model.specs.declared.object.Input.{Input}
 use Rattle.kl_model.specs.declared.place.Placement.{Placement}
 use Rattle.kl_map.specs.MapText.{map_text}
 use Rattle.kl_first.specs.KitText.{IsFirstKit, kit_of}
-use Rattle.kl_first.specs.ObjectFile.{is_first_object, input_of}
-use Rattle.kl_cli.specs.Answers.{kit_text, below, held}
+use Rattle.kl_rel.specs.Objects.{flaw}
+use Rattle.kl_cli.specs.Answers.{kit_text, below, held, input_of}
 use Rattle.kl_cli.specs.Writing.{IsPutPair}
 use Rattle.kl_cli.specs.declared.command.Command.{Command}
 use Rattle.kl_cli.specs.declared.command.Command.TheVariants.{Link}
@@ -20,9 +23,16 @@ pub record IsKitOf (m : Names) (dir : List ℕ) (kit : Kit) (inputs : List Input
   pub entry : List ℕ
   pub file : List ℕ
   pub text : IsFirstKit (held m (kit_text dir)) entry file
-  pub form : is_first_object (held m (below dir file)) entry ≡ true
+  pub sound : flaw (held m (below dir file)) ≡ None
   pub kit_is : kit ≡ kit_of entry file
   pub inputs_are : inputs ≡ input_of (held m (below dir file)) ∷ []
+
+-- a simple kernel kit without drawn inputs
+pub record IsLinkable (kit : Kit) (inputs : List Input) : Type 0 where
+  pub kernel : IsKernelKit kit
+  pub fit : AreFit inputs
+  pub simple : IsTrue (is_simple kit inputs)
+  pub order : IsOrder (drawn_count (map (λ x. x.place) inputs)) []
 
 -- an image and a map text of a kit: of one placement, which carries the kit in kit order without gaps
 pub record AreLinked (kit : Kit) (inputs : List Input) (image map : List ℕ) : Type 0 where

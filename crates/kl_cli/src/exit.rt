@@ -1,10 +1,12 @@
 // What the program answers.
 use kl_base::{Name, NoMemory};
+use kl_model::LinkFault;
+use kl_rel::ReadFault;
 use kl_store::Failed;
 use std::alloc::AllocFailed;
 
 /// How a command ended, in the order in which refusals are asked.
-#[derive(Clone, Copy, Debug, PartialEq, Eq)]
+#[derive(Debug, Drop, PartialEq)]
 pub enum Cause {
     /// All was done.
     Done,
@@ -16,8 +18,23 @@ pub enum Cause {
     Store,
     /// The kit isn't read.
     Kit(KitCause),
-    /// The kit text or the object is of a form that isn't linked yet.
+    /// An input isn't read: its number, its line in the kit text, and the first flaw of its bytes.
+    Object {
+        input: u32,
+        line: u32,
+        fault: ObjectCause,
+    },
+    /// The kit doesn't link.
+    Link(LinkFault),
+    /// The kit text or an input is of a form that isn't linked yet.
     NotYet,
+}
+
+/// Why an input isn't read.
+#[derive(Clone, Copy, Debug, PartialEq, Eq)]
+pub enum ObjectCause {
+    /// A flaw of a relocatable object.
+    Elf(ReadFault),
 }
 
 /// Why a kit isn't read.
@@ -27,11 +44,24 @@ pub enum KitCause {
     Absent(Name),
     /// The file is longer than its limit.
     TooLong(Name),
+    /// The input of a line of the kit text takes the kit past a limit.
+    Total { what: TotalOf, line: u32 },
+}
+
+/// What a kit has too much of.
+#[derive(Clone, Copy, Debug, PartialEq, Eq)]
+pub enum TotalOf {
+    /// More than 2^20 sections.
+    Sections,
+    /// More than 2^22 symbols.
+    Symbols,
+    /// More than 2^23 fields.
+    Fields,
 }
 
 /// How a command ended: the status that the process ends with, its cause, and the number of batches of files that were
 /// installed.
-#[derive(Clone, Copy, Debug, PartialEq, Eq)]
+#[derive(Debug, Drop, PartialEq)]
 pub struct Exit {
     pub status: u8,
     pub cause: Cause,
@@ -52,6 +82,8 @@ impl Cause {
             Cause::NoMemory => 3,
             Cause::Store => 4,
             Cause::Kit(_) => 12,
+            Cause::Object { .. } => 13,
+            Cause::Link(_) => 14,
             Cause::NotYet => 19,
         }
     }

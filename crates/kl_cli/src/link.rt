@@ -1,23 +1,26 @@
 // `link DIR`: one kit, linked into the kit's own folder.
-ghost use Rattle.std.specs.Prelude.{◌≡◌, ◌≤◌, ◌∷◌, ◌++◌, None, Some, length, IfOk, IfErr, OnOk, IsErrOf};
-ghost use Rattle.std.specs.Option.{ForSome};
+ghost use Rattle.std.specs.Prelude.{◌≡◌, ◌≤◌, ◌⊎◌, [], ◌∷◌, ◌++◌, None, Some, length, IfOk, IfErr, OnOk, IsErrOf};
+ghost use Rattle.std.specs.Option.{ForSome, option_map};
 ghost use Rattle.kl_store.specs.Calls.{HasCause, Rose, Stays};
 ghost use Rattle.kl_store.specs.Files.{SameFiles};
-ghost use Rattle.kl_first.specs.Links.{Links};
+ghost use Rattle.kl_model.specs.Faults.{link_fault};
 ghost use Rattle.kl_cli.specs.Answers.{IsRefusal, Refuses, link_refusal};
-ghost use Rattle.kl_cli.specs.Links.{AreLinked, IsKitOf, Leaves};
+ghost use Rattle.kl_cli.specs.Links.{AreLinked, IsKitOf, IsLinkable, Leaves};
 ghost use Rattle.kl_cli.specs.Writing.{PutsPair};
 ghost use Rattle.kl_cli.specs.declared.command.Command.TheVariants as command;
+ghost use Rattle.kl_cli.specs.declared.exit.Cause.TheVariants as cause;
 ghost use Rattle.kl_base.specs.Names.{name_fault};
 
 use crate::exit::Cause;
 use crate::files::{read_file, write_file};
-use kl_base::{INPUT_LIMIT, KIT_TEXT_LIMIT, Name, NoMemory};
-use kl_first::{first_kit, kit_of, read_first_object};
+use crate::input::read_input;
+use kl_base::{INPUT_LIMIT, KIT_TEXT_LIMIT, Name};
+use kl_first::{first_kit, kit_of};
 use kl_kernel::link_kernel;
 use kl_map::{Map, print_map};
 use kl_model::{Input, Kit, LinkFault};
 use kl_store::{Failed, Store};
+use kl_sym::is_simple;
 use std::alloc::Global;
 
 /// A kit and its inputs in kit order.
@@ -52,14 +55,20 @@ pub fn link<S: Store>(alloc: Global, dir: &Name, store: &mut S) -> Result<(), Ca
 }
 
 /// The image of a kit and the text of its map.
-fn link_source(alloc: Global, source: &Source) -> Result<Files, NoMemory>
-    requires { Links source.now.kit source.now.inputs.items }
-    ensures { IfOk result (λ f. AreLinked source.now.kit source.now.inputs.items f.image.items f.map.items) }
+///
+/// # Errors
+///
+/// `Link` with the first fault of the kit, and `NoMemory`.
+fn link_source(alloc: Global, source: &Source) -> Result<Files, Cause>
+    requires { IsLinkable source.now.kit source.now.inputs.items }
+    ensures linked { IfOk result (λ f. AreLinked source.now.kit source.now.inputs.items f.image.items f.map.items) }
+    ensures sound { OnOk result (link_fault source.now.kit source.now.inputs.items None [] ≡ None) }
+    ensures err { IfErr result (λ c. (c ≡ Cause.NoMemory) ⊎ (option_map cause.Link (link_fault source.now.kit source.now.inputs.items None []) ≡ Some c)) }
 {
     let linked = match link_kernel(alloc, &source.kit, &source.inputs, None, &[]) {
         Ok(linked) => linked,
-        Err(LinkFault::NoMemory) => return Err(NoMemory),
-        Err(_) => unreachable!(),
+        Err(LinkFault::NoMemory) => return Err(Cause::NoMemory),
+        Err(fault) => return Err(Cause::Link(fault)),
     };
     let image = linked.image;
     let map = Map {
@@ -71,12 +80,12 @@ fn link_source(alloc: Global, source: &Source) -> Result<Files, NoMemory>
     Ok(Files { image, map })
 }
 
-/// Reads the kit of a folder and its input.
+/// Reads the kit of a folder and its input. What is left to refuse is the fault of its link.
 fn read_source<S: Store>(alloc: Global, dir: &Name, store: &mut S) -> Result<Source, Cause>
     requires { length dir.now ≤ 127 }
     ensures reads { IfOk result (λ s. ForSome (S.meaning store.old).names (λ m. IsKitOf m dir.now s.kit s.inputs.items)) }
-    ensures stands { OnOk result (ForSome (S.meaning store.old).names (λ m. link_refusal m dir.now ≡ None)) }
-    ensures links { IfOk result (λ s. Links s.kit s.inputs.items) }
+    ensures stands { IfOk result (λ s. ForSome (S.meaning store.old).names (λ m. link_refusal m dir.now ≡ option_map cause.Link (link_fault s.kit s.inputs.items None []))) }
+    ensures linkable { IfOk result (λ s. IsLinkable s.kit s.inputs.items) }
     ensures refused { IfErr result (Refuses (S.meaning store.old) (λ m. link_refusal m dir.now)) }
     ensures refusal { IfErr result IsRefusal }
     ensures failed { IsErrOf result Cause.Store → Rose (S.faults store.old) (S.faults store.new) }
@@ -88,13 +97,13 @@ fn read_source<S: Store>(alloc: Global, dir: &Name, store: &mut S) -> Result<Sou
         return Err(Cause::NotYet);
     };
     let bytes = read_file(alloc, store, &file_in(dir, first.file), INPUT_LIMIT)?;
-    let Some(input) = read_first_object(alloc, bytes, first.entry)? else {
+    let input = read_input(alloc, bytes)?;
+    let kit = kit_of(alloc, &first)?;
+    let inputs = vec![in alloc; input]?;
+    if !is_simple(&kit, &inputs) {
         return Err(Cause::NotYet);
-    };
-    Ok(Source {
-        kit: kit_of(alloc, &first)?,
-        inputs: vec![in alloc; input]?,
-    })
+    }
+    Ok(Source { kit, inputs })
 }
 
 /// The name of a file in a folder.

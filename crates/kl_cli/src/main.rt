@@ -5,18 +5,21 @@ mod command;
 mod exit;
 mod files;
 mod host;
+mod input;
 mod link;
 mod run;
 
 use crate::host::{HostEntropy, HostSink, HostStore};
 pub use command::Command;
-pub use exit::{Cause, Exit, KitCause};
+pub use exit::{Cause, Exit, KitCause, ObjectCause, TotalOf};
 pub use run::run;
 use std::env;
 use std::io::{self, ErrorKind};
 use std::process::ExitCode;
 use std::rt::Env;
 
+#[cfg(test)]
+mod kernels;
 #[cfg(test)]
 mod tests;
 

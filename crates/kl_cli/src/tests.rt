@@ -1,6 +1,9 @@
-use crate::{Cause, Exit, KitCause, run};
-use kl_base::Name;
+use crate::{Cause, Exit, KitCause, ObjectCause, run};
+use kl_base::{Listed, Name};
+use kl_elf::HeadFault;
 use kl_mem::{ListEntropy, MemStore, VecSink};
+use kl_model::LinkFault;
+use kl_rel::{Feature, ReadFault, ReadKind};
 use std::alloc::Global;
 use std::test::Fail;
 
@@ -148,17 +151,53 @@ fn refuses_other_forms(rt: HostRuntime) -> Result<(), Fail> {
             "at {text:?}"
         );
     }
-    // the machine; a second allocated section; a relocation section; the symbol past its section; its name
-    let flips = [(18, 3), (296, 2), (356, 4), (104, 4), (121, b'S')];
-    for (at, byte) in flips {
+    // an archive
+    let archive: &[u8] = b"!<arch>\n";
+    let mut store = kit_store(alloc, KIT, archive)?;
+    let (exit, _) = answer(alloc, &[b"link", b"/kit"], &mut store)?;
+    assert_eq!(rt; (exit.status, exit.cause), (19, Cause::NotYet));
+    Ok(())
+}
+
+#[test]
+fn tells_flaws_of_an_object(rt: HostRuntime) -> Result<(), Fail> {
+    let alloc = rt.alloc();
+    // the machine; an allocated symbol table
+    let flips = [
+        (18, 3, ReadKind::Head(HeadFault::Machine), 18),
+        (296, 2, ReadKind::Unsupported(Feature::SectionType), 292),
+    ];
+    for (place, byte, kind, at) in flips {
         let mut bad = object(alloc)?;
-        assert!(rt; at < bad.len());
-        bad[at] = byte;
+        assert!(rt; place < bad.len());
+        bad[place] = byte;
         let mut store = kit_store(alloc, KIT, &bad)?;
         let (exit, _) = answer(alloc, &[b"link", b"/kit"], &mut store)?;
-        assert_eq!(rt; (exit.status, exit.cause), (19, Cause::NotYet), "at {at}");
+        let fault = ObjectCause::Elf(ReadFault { kind, at });
+        let cause = Cause::Object {
+            input: 0,
+            line: 4,
+            fault,
+        };
+        assert_eq!(rt; (exit.status, exit.cause), (13, cause));
         assert_eq!(rt; store.get(&named(b"/kit/linked.relink")?), None);
     }
+    Ok(())
+}
+
+#[test]
+fn tells_the_fault_of_a_link(rt: HostRuntime) -> Result<(), Fail> {
+    let alloc = rt.alloc();
+    let mut other = object(alloc)?;
+    assert!(rt; 121 < other.len());
+    other[121] = b'S';
+    let mut store = kit_store(alloc, KIT, &other)?;
+    let (exit, _) = answer(alloc, &[b"link", b"/kit"], &mut store)?;
+    let name = Listed::from_vec(Vec::from_slice(alloc, b"start")?);
+    assert_eq!(rt;
+        (exit.status, exit.cause),
+        (14, Cause::Link(LinkFault::NoEntry { name }))
+    );
     Ok(())
 }
 

@@ -1,4 +1,1 @@
 pub mod KitText
-pub mod ObjectFile
-pub mod SectionsAt
-pub mod Links

@@ -2,6 +2,7 @@
 ghost use Rattle.std.specs.Prelude.{◌≡◌, ◌≤◌, ◌<◌, ◌∷◌, ◌+◌, ℕ, List, Option, length, IfOk, IfSome, IfNone, true};
 ghost use Rattle.std.specs.Option.{option_map};
 ghost use Rattle.std.specs.List.{position_from};
+ghost use Rattle.kl_model.specs.Fit.{IsKernelKit};
 ghost use Rattle.kl_first.specs.KitText.{IsFirstKit, after_prefix, first_line, is_newline, first_kit, is_symbol, is_file, kit_of};
 
 use kl_base::{Listed, Name, NoMemory, are_path_bytes};
@@ -74,7 +75,8 @@ fn is_file(file: &[u8]) -> bool
 pub fn kit_of(alloc: Global, kit: &FirstKit<'_>) -> Result<Kit, NoMemory>
     requires entry { is_symbol kit.now.entry.now ≡ true }
     requires file { is_file kit.now.file.now ≡ true }
-    ensures { IfOk result (λ k. k ≡ kit_of kit.now.entry.now kit.now.file.now) }
+    ensures kit { IfOk result (λ k. k ≡ kit_of kit.now.entry.now kit.now.file.now) }
+    ensures kernel { IfOk result IsKernelKit }
 {
     let entry = Word::from_vec(Vec::from_slice(alloc, kit.entry)?);
     let file = Word::from_vec(Vec::from_slice(alloc, kit.file)?);

@@ -273,13 +273,15 @@ with_slot_ok s slot (Err n) es e = wrong_pair n (slot, es) e
 entries_are : (rest : List ℕ) (es : List Entry) → entries_from 8 [] rest ≡ Ok es → AreEntries es × (rest ≡ flat_map entry_line es ++ line (codes "end"))
 entries_are rest es is =
     let from = entries_from_text 8 [] rest es is in
-    let all : es ≡ from.entries = from.all_is in
-    (record {
-      some = from.some;
-      few = omega (arith, ap length all, from.few);
-      each = subst (AllByRecursion IsEntry) (sym all) from.each;
-      distinct = subst (AreDistinct []) (sym all) from.distinct;
-    }, from.text_is ∙ ap (λ (l : List Entry). flat_map entry_line l ++ line (codes "end")) (sym all))
+    let all : es ≡ from.entries = from.all_is in (
+      record {
+        some = from.some;
+        few = omega (arith, ap length all, from.few);
+        each = subst (AllByRecursion IsEntry) (sym all) from.each;
+        distinct = subst (AreDistinct []) (sym all) from.distinct;
+      },
+      from.text_is ∙ ap (λ (l : List Entry). flat_map entry_line l ++ line (codes "end")) (sym all),
+    )
 
 slot_from : (text : List ℕ) (o : Option (List ℕ)) (slot : Slot) (es : List Entry) → after_prefix (line (codes "batch kernel")) text ≡ o → read_slot text o ≡ Ok (slot, es)
     → AreEntries es × (text ≡ line (codes "batch " ++ slot_word slot) ++ (flat_map entry_line es ++ line (codes "end")))

@@ -49,6 +49,7 @@ one_fresh before (Some x) e more is = cases (is_new x.target before) refl
   where
     same : ◌≡◌ {A = Option Entry} (Some x) (Some e) → x ≡ e
     same p = cc
+
     cases : (b : Bool) → is_new x.target before ≡ b → cond (is_new x.target before) (more x) (wrong_line before) ≡ more e
     cases true new = ap (λ b. cond b (more x) (wrong_line before)) new ∙ ap more (same (sym (ap (λ b. cond b (Some x) None) new) ∙ is))
     cases false new = let no : ◌≡◌ {A = Option Entry} None (Some e) = sym (ap (λ b. cond b (Some x) None) new) ∙ is in cc

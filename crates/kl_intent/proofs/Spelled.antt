@@ -114,12 +114,15 @@ old_from w o e = cases (bytes_eq w (45 ∷ [])) refl
   where
     same : ◌≡◌ {A = Option (Option (List ℕ))} (Some None) (Some o) → ◌≡◌ {A = Option (List ℕ)} None o
     same p = cc
+
     none : (o : Option (List ℕ)) → ◌≡◌ {A = Option (List ℕ)} None o → w ≡ 45 ∷ [] → (w ≡ old_word o) × IsOld o
     none None p is = (is, tt)
     none (Some d) p is = cc
+
     some : (o : Option (List ℕ)) (d : List ℕ) → o ≡ Some d → (w ≡ encode_lower d) × IsDigest d → (w ≡ old_word o) × IsOld o
     some None d p is = cc
     some (Some x) d p is = let eq : d ≡ x = cc in (is.0 ∙ ap encode_lower eq, subst IsDigest eq is.1)
+
     cases : (b : Bool) → bytes_eq w (45 ∷ []) ≡ b → (w ≡ old_word o) × IsOld o
     cases true is = none o (same (sym (ap (λ b. cond b (Some None) (option_map (λ x. Some x) (digest_of w))) is) ∙ e)) (equal_bytes w (45 ∷ []) is)
     cases false is =

@@ -4,10 +4,14 @@ use std::alloc::Global;
 use std::test::Fail;
 
 const HEAD: &[u8] = b"relink intent 1\nbatch kernel\n";
-const KERNEL: &[u8] = b"entry /bsd 00000000000000000000000000000000000000000000000000000000000000ff \
+
+const KERNEL: &[u8] =
+    b"entry /bsd 00000000000000000000000000000000000000000000000000000000000000ff \
 abcdef0000000000000000000000000000000000000000000000000000000000\n";
+
 const MAP: &[u8] = b"entry /var/db/kernel.map - \
 abcdef0000000000000000000000000000000000000000000000000000000001\n";
+
 const END: &[u8] = b"end\n";
 
 /// The lines as one text.
@@ -30,16 +34,22 @@ fn reads_and_prints(rt: HostRuntime) -> Result<(), Fail> {
     let mut out = [0; 4096];
     let count = print_intent(&intent, &mut out);
     assert_eq!(rt; &out[..count], text.as_slice());
-    assert_eq!(rt; slot_name(Slot::Libs).bytes(), b"/var/db/relink.libs.intent".as_slice());
+    assert_eq!(rt;
+        slot_name(Slot::Libs).bytes(),
+        b"/var/db/relink.libs.intent".as_slice()
+    );
     Ok(())
 }
 
 #[test]
 fn tells_the_first_wrong_line(rt: HostRuntime) -> Result<(), Fail> {
-    let scratch = b"entry /bsd.relink - abcdef0000000000000000000000000000000000000000000000000000000000\n";
+    let scratch =
+        b"entry /bsd.relink - abcdef0000000000000000000000000000000000000000000000000000000000\n";
     let upper = b"entry /bsd - ABCDEF0000000000000000000000000000000000000000000000000000000000\n";
-    let spaces = b"entry  /bsd - abcdef0000000000000000000000000000000000000000000000000000000000\n";
-    let slot = b"entry /var/db/relink.libs.intent - abcdef0000000000000000000000000000000000000000000000000000000000\n";
+    let spaces =
+        b"entry  /bsd - abcdef0000000000000000000000000000000000000000000000000000000000\n";
+    let slot =
+        b"entry /var/db/relink.libs.intent - abcdef0000000000000000000000000000000000000000000000000000000000\n";
     let cases: [(&[&[u8]], u32); 13] = [
         (&[], 1),
         (&[b"relink intent 2\n", KERNEL, END], 1),
@@ -57,7 +67,11 @@ fn tells_the_first_wrong_line(rt: HostRuntime) -> Result<(), Fail> {
     ];
     for (lines, line) in cases {
         let text = text(rt.alloc(), lines)?;
-        assert_eq!(rt; read_intent(&text).err(), Some(IntentFault { line }), "at {lines:?}");
+        assert_eq!(rt;
+            read_intent(&text).err(),
+            Some(IntentFault { line }),
+            "at {lines:?}"
+        );
     }
     let long = vec![in rt.alloc(); b'\n'; 4097]?;
     assert_eq!(rt; read_intent(&long).err(), Some(IntentFault { line: 0 }));

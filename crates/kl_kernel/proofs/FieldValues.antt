@@ -1,15 +1,14 @@
 -- The value of one field more.
-use Rattle.std.proofs.Common.{ℕ, ◌≡◌, ◌+◌, ◌-◌, ◌*◌, ◌%◌, ◌^◌, ◌<◌, ◌≤◌, ◌∙◌, List, [], ◌∷◌, length, get_or, take, refl, ap, sym, arith, inl, inr, ◌⊎◌, Bool, true, false, not, ◌||◌}
+use Rattle.std.proofs.Common.{ℕ, ◌≡◌, ◌+◌, ◌<◌, ◌≤◌, ◌∙◌, List, [], length, get_or, take, refl, ap, arith, inl, inr, ◌⊎◌, false}
 use Rattle.std.specs.Prelude.{AllPairs, All}
 use Rattle.std.proofs.lemmas.Bool.{cases_lt}
-use Rattle.std.proofs.lemmas.List.{get_or_default, append-nil}
-use Rattle.kl_le.specs.Bytes.{ChangesWithin, Outside, num}
+use Rattle.std.proofs.lemmas.List.{append-nil}
+use Rattle.kl_le.specs.Bytes.{ChangesWithin, Outside}
 use Rattle.kl_le.proofs.Num.{num_kept}
-use Rattle.kl_model.specs.Lists.{each, only_if}
-use Rattle.kl_model.specs.Laid.{area_at}
+use Rattle.kl_model.specs.Lists.{each}
 use Rattle.kl_model.specs.Line.{is_slot_kind, same_target}
 use Rattle.kl_model.specs.Reaches.{width, value, in_range}
-use Rattle.kl_model.specs.Carries.{address_of, piece_at}
+use Rattle.kl_model.specs.Carries.{address_of}
 use Rattle.kl_model.specs.Faults.{does_fit, field_address, value_target}
 use Rattle.kl_model.specs.Simple.{IsSimpleField, IsSimpleTarget, StandApart}
 use Rattle.kl_model.specs.declared.graph.Field.{Field}
@@ -18,7 +17,7 @@ use Rattle.kl_model.specs.declared.graph.Target.{Target}
 use Rattle.kl_model.specs.declared.graph.Target.TheVariants.{Place, Abs, Edge, Name, Zero, Gone}
 use Rattle.kl_model.specs.declared.place.Placement.{Placement}
 use Rattle.kl_model.proofs.Each.{each_more}
-use Rattle.kl_kernel.specs.TextImage.{HoldsValue, StandInText, field_at, field_place, file_place, no_field, range_fault, stands_at}
+use Rattle.kl_kernel.specs.TextImage.{HoldsValue, StandInText, field_at, field_place, no_field, range_fault, stands_at}
 
 pub not_gone : (g : Graph) (t : Target) → IsSimpleTarget g t → same_target t Gone ≡ false
 not_gone g (Place n k) h = refl
@@ -55,23 +54,26 @@ module _ (p : Placement) (g : Graph) (stand : StandInText p g) (simple : All (Is
       let wf = stand.within f.piece sf.piece in let wd = stand.within d.piece sd.piece in
       let inf = sf.inside in let ind = sd.inside in
       elim (cases_lt f.piece d.piece) [
-        inl a ↦ elim (stand.apart f.piece d.piece a sd.piece) [ inl x ↦ inl (omega arith) | inr x ↦ inr (omega arith) ]
-      | inr a ↦ elim (cases_lt d.piece f.piece) [
-          inl b ↦ elim (stand.apart d.piece f.piece b sf.piece) [ inl x ↦ inr (omega arith) | inr x ↦ inl (omega arith) ]
-        | inr b ↦
-            let same : f.piece ≡ d.piece = omega arith in
-            let places : stands_at p f.piece ≡ stands_at p d.piece = ap (stands_at p) same in
-            elim (apart k m no_field h l same) [ inl x ↦ inl (omega arith) | inr x ↦ inr (omega arith) ] ] ]
+        | inl a ↦ elim (stand.apart f.piece d.piece a sd.piece) [ inl x ↦ inl (omega arith) | inr x ↦ inr (omega arith) ]
+        | inr a ↦ elim (cases_lt d.piece f.piece) [
+          | inl b ↦ elim (stand.apart d.piece f.piece b sf.piece) [ inl x ↦ inr (omega arith) | inr x ↦ inl (omega arith) ]
+          | inr b ↦
+              let same : f.piece ≡ d.piece = omega arith in
+              let places : stands_at p f.piece ≡ stands_at p d.piece = ap (stands_at p) same in
+              elim (apart k m no_field h l same) [ inl x ↦ inl (omega arith) | inr x ↦ inr (omega arith) ]
+        ]
+      ]
 
   module _ (n : ℕ) (h : n < length g.fields) (old mid new : List ℕ) (changes : ChangesWithin mid new (field_place p (field_at g n)) (width (field_at g n).kind))
       (here : HoldsValue new p g (field_at g n)) where
     pub hold_more : ((k : ℕ) → k < n → HoldsValue mid p g (field_at g k)) → (k : ℕ) → k < n + 1 → HoldsValue new p g (field_at g k)
     hold_more before k l =
         elim (cases_lt k n) [
-          inl q ↦
-            let was = before k q in
-            record { fits = was.fits; bytes = num_kept (field_place p (field_at g k)) (width (field_at g k).kind) changes (fields_apart k n q h) ∙ was.bytes }
-        | inr q ↦ let same : k ≡ n = omega arith in rw same here ]
+          | inl q ↦
+              let was = before k q in
+              record { fits = was.fits; bytes = num_kept (field_place p (field_at g k)) (width (field_at g k).kind) changes (fields_apart k n q h) ∙ was.bytes }
+          | inr q ↦ let same : k ≡ n = omega arith in rw same here
+        ]
 
     pub fields_rest : ((q : ℕ) → ((k : ℕ) → k < n → Outside (field_place p (field_at g k)) (width (field_at g k).kind) q) → get_or mid q 0 ≡ get_or old q 0)
         → (q : ℕ) → ((k : ℕ) → k < n + 1 → Outside (field_place p (field_at g k)) (width (field_at g k).kind) q) → get_or new q 0 ≡ get_or old q 0

@@ -7,3 +7,4 @@ pub mod TextLaid
 pub mod TextCarries
 pub mod LinkFaults
 pub mod LinkSteps
+pub mod OneTargets

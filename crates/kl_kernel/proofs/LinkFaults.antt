@@ -1,13 +1,12 @@
 -- The first fault of a link: of names first, then the span, then the range of fields.
-use Rattle.std.proofs.Common.{◌≡◌, ℕ, ◌≤◌, ◌<◌, ◌∙◌, ◌⊎◌, List, [], ◌∷◌, ◌++◌, length, get_or, Option, refl, ap, sym, arith, Bool, true, false, nat_lt}
+use Rattle.std.proofs.Common.{◌≡◌, ℕ, ◌≤◌, ◌∙◌, List, [], ◌∷◌, ◌++◌, refl, ap, sym, Bool, true, false, nat_lt}
 use Rattle.std.specs.Prelude.{Some, None, All, slice_get}
 use Rattle.std.specs.Option.{option_map}
 use Rattle.std.proofs.lemmas.Bool.{le-ltb}
 use Rattle.kl_model.specs.Graphs.{graph}
 use Rattle.kl_model.specs.Laid.{span}
-use Rattle.kl_model.specs.Line.{made_of}
 use Rattle.kl_model.specs.Carries.{span_limit}
-use Rattle.kl_model.specs.Faults.{does_fit, graph_faults, link_fault, range_faults, resolve_fault, resolve_faults, span_faults}
+use Rattle.kl_model.specs.Faults.{graph_faults, link_fault, range_faults, resolve_fault, resolve_faults, span_faults}
 use Rattle.kl_model.specs.Placed.{placed}
 use Rattle.kl_model.specs.Simple.{IsWritable}
 use Rattle.kl_model.specs.declared.object.Input.{Input}
@@ -15,7 +14,6 @@ use Rattle.kl_model.specs.declared.kit.Kit.{Kit}
 use Rattle.kl_model.specs.declared.graph.Graph.{Graph}
 use Rattle.kl_model.specs.declared.place.Placement.{Placement}
 use Rattle.kl_model.specs.declared.link.LinkFault.{LinkFault}
-use Rattle.kl_model.specs.declared.link.LinkFault.TheVariants as link
 use Rattle.kl_model.proofs.Each.{each-none, head_left}
 use Rattle.kl_layout.specs.declared.fault.LayoutFault.{LayoutFault}
 use Rattle.kl_layout.specs.declared.fault.LayoutFault.TheVariants as layout

@@ -1,5 +1,5 @@
 -- The steps of a link: names, the layout, the image.
-use Rattle.std.proofs.Common.{◌≡◌, ◌⊎◌, ◌≤◌, ◌∙◌, ℕ, List, Option, inl, inr, refl, ap, sym, map, length}
+use Rattle.std.proofs.Common.{◌≡◌, ◌≤◌, ◌∙◌, ℕ, List, ap, map}
 use Rattle.std.specs.Prelude.{Some, None, IsTrue, slice_get}
 use Rattle.kl_model.specs.Carries.{Carries, Names, span_limit}
 use Rattle.kl_model.specs.Faults.{link_fault, resolve_fault, range_faults}
@@ -13,7 +13,6 @@ use Rattle.kl_model.specs.declared.object.Input.{Input}
 use Rattle.kl_model.specs.declared.kit.Kit.{Kit}
 use Rattle.kl_model.specs.declared.graph.Graph.{Graph}
 use Rattle.kl_model.specs.declared.place.Placement.{Placement}
-use Rattle.kl_model.specs.declared.link.LinkFault.{LinkFault}
 use Rattle.kl_sym.proofs.SimpleKits.{simple_kit}
 use Rattle.kl_sym.proofs.SoundGraph.{simple_graph}
 use Rattle.kl_sym.proofs.SoundFields.{writable}

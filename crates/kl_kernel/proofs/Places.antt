@@ -1,8 +1,8 @@
 -- Addresses that are kept modulo 2^64, and their places in the file.
-use Rattle.std.proofs.Common.{ℕ, ◌≡◌, ◌+◌, ◌-◌, ◌%◌, ◌^◌, ◌<◌, ◌≤◌, ◌∙◌, List, length, get_or, refl, ap, sym, arith, Bool, true, false, nat_lt, inl, inr, ◌⊎◌}
+use Rattle.std.proofs.Common.{ℕ, ◌≡◌, ◌+◌, ◌-◌, ◌%◌, ◌^◌, ◌<◌, refl, arith, true, false, nat_lt, inl, inr}
 use Rattle.std.proofs.lemmas.Bool.{le-ltb, lt-ltb, cases_lt}
-use Rattle.kl_model.specs.Laid.{unwrapped, no_placed}
-use Rattle.kl_model.specs.Reaches.{less, plus}
+use Rattle.kl_model.specs.Laid.{unwrapped}
+use Rattle.kl_model.specs.Reaches.{less}
 use Rattle.kl_base.specs.declared.class.Class.TheVariants.{Text}
 use Rattle.kl_model.specs.declared.graph.Piece.{Piece}
 use Rattle.std.specs.Prelude.{pos}
@@ -16,21 +16,24 @@ use Rattle.kl_model.specs.declared.place.Placement.{Placement}
 pub less_base : (p : Placement) (a : ℕ) → a < 2 ^ 64 → p.base < 2 ^ 64 → less a p.base ≡ unwrapped p a - p.base
 less_base p a h b =
     elim (cases_lt a p.base) [
-      inl q ↦ let t : nat_lt a p.base ≡ true = lt-ltb a p.base q in rw t (omega arith)
-    | inr q ↦ let t : nat_lt a p.base ≡ false = le-ltb a p.base q in rw t (omega arith) ]
+      | inl q ↦ let t : nat_lt a p.base ≡ true = lt-ltb a p.base q in rw t (omega arith)
+      | inr q ↦ let t : nat_lt a p.base ≡ false = le-ltb a p.base q in rw t (omega arith)
+    ]
 
 -- and how far an offset behind it does
 pub less_offset : (p : Placement) (a k : ℕ) → a < 2 ^ 64 → p.base < 2 ^ 64 → unwrapped p a + k < p.base + 2 ^ 64 → less ((a + k) % 2 ^ 64) p.base ≡ unwrapped p a + k - p.base
 less_offset p a k h b l =
     elim (cases_lt a p.base) [
-      inl q ↦ let t : nat_lt a p.base ≡ true = lt-ltb a p.base q in let m : a + 2 ^ 64 + k < p.base + 2 ^ 64 = rw t at l in rw t (omega arith)
-    | inr q ↦ let t : nat_lt a p.base ≡ false = le-ltb a p.base q in let m : a + k < p.base + 2 ^ 64 = rw t at l in rw t (omega arith) ]
+      | inl q ↦ let t : nat_lt a p.base ≡ true = lt-ltb a p.base q in let m : a + 2 ^ 64 + k < p.base + 2 ^ 64 = rw t at l in rw t (omega arith)
+      | inr q ↦ let t : nat_lt a p.base ≡ false = le-ltb a p.base q in let m : a + k < p.base + 2 ^ 64 = rw t at l in rw t (omega arith)
+    ]
 
 pub unwrapped-plus : (p : Placement) (a k : ℕ) → (unwrapped p a + k) % 2 ^ 64 ≡ (a + k) % 2 ^ 64
 unwrapped-plus p a k =
     elim (cases_lt a p.base) [
-      inl q ↦ let t : nat_lt a p.base ≡ true = lt-ltb a p.base q in rw t (omega arith)
-    | inr q ↦ let t : nat_lt a p.base ≡ false = le-ltb a p.base q in rw t refl ]
+      | inl q ↦ let t : nat_lt a p.base ≡ true = lt-ltb a p.base q in rw t (omega arith)
+      | inr q ↦ let t : nat_lt a p.base ≡ false = le-ltb a p.base q in rw t refl
+    ]
 
 -- what the prover takes for an item past the end of a list
 abbrev pub zero_piece : Piece

@@ -1,28 +1,25 @@
 -- An image of a graph of text that is laid out carries the graph.
-use Rattle.std.proofs.Common.{ℕ, zero, suc, ◌≡◌, ◌+◌, ◌-◌, ◌*◌, ◌%◌, ◌^◌, ◌<◌, ◌≤◌, ◌∙◌, List, [], ◌∷◌, ◌++◌, length, get_or, refl, ap, sym, subst, arith, inl, inr, ◌⊎◌, Bool, true, false, Option}
-use Rattle.std.specs.Prelude.{Some, None, All, Any, slice_get, slice_index}
+use Rattle.std.proofs.Common.{ℕ, zero, suc, ◌≡◌, ◌+◌, ◌%◌, ◌^◌, ◌<◌, ◌≤◌, ◌∙◌, List, [], ◌∷◌, length, get_or, refl, ap, subst, arith, inl, inr, ◌⊎◌, true, false}
+use Rattle.std.specs.Prelude.{Some, None, All}
 use Rattle.std.proofs.lemmas.Bool.{cases_lt}
 use Rattle.std.proofs.lemmas.List.{append-nil, get_or_default}
-use Rattle.kl_le.specs.Bytes.{Outside, Within, num}
+use Rattle.kl_le.specs.Bytes.{Within}
 use Rattle.kl_base.specs.declared.class.Class.{Class}
 use Rattle.kl_base.specs.declared.class.Class.TheVariants.{Text, Rodata, Rwdata, Bss}
 use Rattle.kl_model.specs.Lists.{each}
 use Rattle.kl_model.specs.Kept.{class_number}
-use Rattle.kl_model.specs.Line.{Spread, spreads, every_part, is_slot_kind, line, same_target, made_of, piece_part, slots, slots_after}
+use Rattle.kl_model.specs.Line.{every_part, is_slot_kind, line, same_target, made_of, piece_part, slots, slots_after}
 use Rattle.kl_model.specs.Fit.{IsKernelKit}
-use Rattle.kl_model.specs.Laid.{AreasStand, IsArea, Laid, area_at, end_of, no_area, place_of, reach, span}
-use Rattle.kl_model.specs.Memory.{mem, segments}
-use Rattle.kl_model.specs.Reaches.{ReachesDirectly, in_range, value, width}
-use Rattle.kl_model.specs.Carries.{Apart, CarriesGraph, Contents, FieldReaches, Holds, InArea, InField, InPart, Names, Padded, Reached, Slots, address_of, content, padding, permission, piece_at, no_piece, segments_of, span_limit}
+use Rattle.kl_model.specs.Laid.{AreasStand, IsArea, Laid, area_at, place_of, span}
+use Rattle.kl_model.specs.Memory.{mem}
+use Rattle.kl_model.specs.Reaches.{ReachesDirectly, in_range, value}
+use Rattle.kl_model.specs.Carries.{Apart, CarriesGraph, Contents, FieldReaches, Holds, InArea, InPart, Names, Padded, Reached, address_of, padding, piece_at, no_piece, span_limit}
 use Rattle.kl_model.specs.Faults.{field_address, value_target}
 use Rattle.kl_model.specs.Orders.{IsOrder, drawn_count}
 use Rattle.kl_model.specs.Placed.{placed}
 use Rattle.kl_model.specs.Simple.{IsSimpleField, IsSimpleGraph, IsSimpleTarget, IsWritable}
 use Rattle.kl_model.specs.declared.object.Input.{Input}
-use Rattle.kl_model.specs.declared.place.Body.{Body}
-use Rattle.kl_model.specs.declared.place.Body.TheVariants as body
 use Rattle.kl_model.specs.declared.place.LinePart.{LinePart}
-use Rattle.kl_model.specs.declared.place.Made.{Made}
 use Rattle.kl_model.specs.declared.place.Placement.{Placement}
 use Rattle.kl_model.specs.declared.graph.Piece.{Piece}
 use Rattle.kl_model.specs.declared.graph.Field.{Field}
@@ -86,14 +83,14 @@ module _ (kit : Kit) (inputs : List Input) (g : Graph) (order : List ℕ) (p : P
   apart_pieces : Apart p g (every_part g None no_made)
   apart_pieces = record {
     aligned = rw (append-nil parts) (each-all (λ x. place_of p g x.body % x.align ≡ 0) 0 as_parts g.pieces
-      (λ k d l. one (λ x. place_of p g x.body % x.align ≡ 0) (piece_part (0 + k) (get_or g.pieces k d))
-      (let z : 0 + k ≡ k = omega arith in rw (z, get_or_default g.pieces k d no_piece l) (piece_aligned kit g order p fit simple o laid names is small k l))));
+        (λ k d l. one (λ x. place_of p g x.body % x.align ≡ 0) (piece_part (0 + k) (get_or g.pieces k d))
+        (let z : 0 + k ≡ k = omega arith in rw (z, get_or_default g.pieces k d no_piece l) (piece_aligned kit g order p fit simple o laid names is small k l))));
     apart = rw (append-nil parts) (each-pairs AreApart 0 as_parts g.pieces
-      (λ k d l i j e m n. absurd (omega (arith, m, n)))
-      (λ k j d m l. one (λ x. All (AreApart x) (piece_part (0 + j) (get_or g.pieces j d) ∷ [])) (piece_part (0 + k) (get_or g.pieces k d))
-      (one (AreApart (piece_part (0 + k) (get_or g.pieces k d))) (piece_part (0 + j) (get_or g.pieces j d))
-      (let z : 0 + k ≡ k = omega arith in let y : 0 + j ≡ j = omega arith in
-      rw (z, y, get_or_default g.pieces k d no_piece (omega (arith, m, l)), get_or_default g.pieces j d no_piece l) (pieces_apart kit g order p fit simple o laid names is small k j m l)))));
+        (λ k d l i j e m n. absurd (omega (arith, m, n)))
+        (λ k j d m l. one (λ x. All (AreApart x) (piece_part (0 + j) (get_or g.pieces j d) ∷ [])) (piece_part (0 + k) (get_or g.pieces k d))
+        (one (AreApart (piece_part (0 + k) (get_or g.pieces k d))) (piece_part (0 + j) (get_or g.pieces j d))
+        (let z : 0 + k ≡ k = omega arith in let y : 0 + j ≡ j = omega arith in
+        rw (z, y, get_or_default g.pieces k d no_piece (omega (arith, m, l)), get_or_default g.pieces j d no_piece l) (pieces_apart kit g order p fit simple o laid names is small k j m l)))));
   }
     where
       as_parts : ℕ → Piece → List LinePart
@@ -112,8 +109,8 @@ module _ (kit : Kit) (inputs : List Input) (g : Graph) (order : List ℕ) (p : P
       let init = same_ends p 4 _ areas.2.1 in
       let fini = same_ends p 5 _ areas.2.2.1 in
       elim w [
-        inl i ↦ absurd (omega (arith, init, i.0, i.1))
-      | inr i ↦ absurd (omega (arith, fini, i.0, i.1))
+        | inl i ↦ absurd (omega (arith, init, i.0, i.1))
+        | inr i ↦ absurd (omega (arith, fini, i.0, i.1))
       ]
 
   module _ (img : List ℕ) (image : IsTextImage img p inputs g) where
@@ -126,9 +123,9 @@ module _ (kit : Kit) (inputs : List Input) (g : Graph) (order : List ℕ) (p : P
     contents : Contents img p inputs g None
     contents = record {
       pieces = λ n k h l free.
-        (let byte = rw (place_at n k h) at (image.pieces n k h l free) in
-        let c = is_text n h in
-        piece_byte img p g inputs n k ordered image.segments (rw c refl) (rw c (bytes_at n k h l)) byte);
+          (let byte = rw (place_at n k h) at (image.pieces n k h l free) in
+          let c = is_text n h in
+          piece_byte img p g inputs n k ordered image.segments (rw c refl) (rw c (bytes_at n k h l)) byte);
       gap_bytes = tt;
       permissions = λ c a l h. rw (mem_in_class img p c a ordered image.segments (l, h)) refl;
     }
@@ -177,10 +174,10 @@ module _ (kit : Kit) (inputs : List Input) (g : Graph) (order : List ℕ) (p : P
     in_no_piece a w free n h =
         let inside = stand.within n h in let start = stand.start in
         elim (cases_lt a (stands_at p n)) [
-          inl q ↦ inl (omega (arith, q, start, w.0))
-        | inr q ↦ elim (cases_lt a (stands_at p n + (piece_at g n).size)) [
-            inl r ↦ absurd (free (in_line n h a (q, r)))
-          | inr r ↦ inr (omega (arith, q, r, start, inside.0))
+          | inl q ↦ inl (omega (arith, q, start, w.0))
+          | inr q ↦ elim (cases_lt a (stands_at p n + (piece_at g n).size)) [
+            | inl r ↦ absurd (free (in_line n h a (q, r)))
+            | inr r ↦ inr (omega (arith, q, r, start, inside.0))
           ]
         ]
 
@@ -198,7 +195,7 @@ module _ (kit : Kit) (inputs : List Input) (g : Graph) (order : List ℕ) (p : P
     }
 
     pub carries : CarriesGraph img p kit inputs g None order
-    carries = 
+    carries =
         let made = nothing_made kit inputs g writable in
         record {
           laid = rw made laid;

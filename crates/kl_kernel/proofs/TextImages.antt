@@ -1,24 +1,21 @@
 -- The image of text: bare where text has no byte, and else of one program header.
-use Rattle.std.proofs.Common.{ℕ, ◌≡◌, ◌+◌, ◌-◌, ◌*◌, ◌^◌, ◌<◌, ◌≤◌, ◌∙◌, List, [], ◌∷◌, length, get_or, refl, ap, sym, arith, inl, inr, ◌⊎◌, Bool, true, false, nat_eq, nat_lt, eq-eqb, max}
-use Rattle.std.specs.Prelude.{All, ◌==◌}
+use Rattle.std.proofs.Common.{ℕ, ◌≡◌, ◌+◌, ◌-◌, ◌^◌, ◌<◌, ◌∙◌, List, [], ◌∷◌, length, get_or, refl, ap, sym, arith, inl, inr, true, false, nat_lt, max}
+use Rattle.std.specs.Prelude.{◌==◌}
 use Rattle.std.proofs.Math.Nat.{max-eq_right}
 use Rattle.std.proofs.lemmas.Bool.{cases_lt, ne_eqb, lt-ltb, le-ltb}
 use Rattle.std.proofs.lemmas.List.{get_or_past}
-use Rattle.kl_le.specs.Bytes.{Outside}
 use Rattle.kl_elf.specs.Records.{ehdr_at, phdrs_from}
 use Rattle.kl_elf.specs.declared.records.Ehdr.{Ehdr}
 use Rattle.kl_elf.specs.declared.records.Phdr.{Phdr}
-use Rattle.kl_model.specs.Laid.{area_at, no_area, page, unwrapped}
-use Rattle.kl_model.specs.Memory.{segments}
-use Rattle.kl_model.specs.Reaches.{width}
-use Rattle.kl_model.specs.Carries.{class_size, kernel_head, piece_at, segment_of, segments_of, span_limit}
+use Rattle.kl_model.specs.Laid.{area_at, no_area}
+use Rattle.kl_model.specs.Carries.{class_size, piece_at, segment_of, segments_of}
 use Rattle.kl_model.specs.Simple.{IsWritable}
-use Rattle.kl_base.specs.declared.class.Class.TheVariants.{Text, Rodata, Rwdata, Bss}
+use Rattle.kl_base.specs.declared.class.Class.TheVariants.{Text}
 use Rattle.kl_model.specs.declared.object.Input.{Input}
 use Rattle.kl_model.specs.declared.graph.Graph.{Graph}
 use Rattle.kl_model.specs.declared.place.Placement.{Placement}
 use Rattle.kl_model.proofs.Images.{segments-read}
-use Rattle.kl_kernel.specs.TextImage.{InNoPiece, IsPaddedAndFilled, IsTextImage, OnlyText, StandInText, entry_address, file_place, head_with, stands_at}
+use Rattle.kl_kernel.specs.TextImage.{IsPaddedAndFilled, IsTextImage, OnlyText, StandInText, entry_address, file_place, head_with}
 use Rattle.kl_kernel.proofs.FieldValues.{wide}
 
 module _ (inputs : List Input) (p : Placement) (g : Graph) (stand : StandInText p g) (writable : IsWritable inputs g) (only : OnlyText p) where
@@ -47,7 +44,7 @@ module _ (inputs : List Input) (p : Placement) (g : Graph) (stand : StandInText 
           zeros = rw none (λ k l out. get_or_past img k 0 (omega arith));
           pieces = λ n k h l free. absurd (no_piece_byte n k h l);
           hold = λ k d h. (let s = writable.fields k d h in let w = wide (get_or g.fields k d).kind s.kind in let inside = s.inside in
-            absurd (no_piece_byte (get_or g.fields k d).piece (get_or g.fields k d).offset s.piece (omega arith)));
+              absurd (no_piece_byte (get_or g.fields k d).piece (get_or g.fields k d).offset s.piece (omega arith)));
           padding = λ a w out. (let l = w.0 in let r = w.1 in absurd (omega arith));
         }
 
@@ -63,9 +60,10 @@ module _ (inputs : List Input) (p : Placement) (g : Graph) (stand : StandInText 
     start_kept =
         let limit = stand.limit in let base = stand.base in
         elim (cases_lt (get_or p.areas 0 no_area).start p.base) [
-          inl q ↦ let t : nat_lt (get_or p.areas 0 no_area).start p.base ≡ true = lt-ltb (get_or p.areas 0 no_area).start p.base q in
-            let wrapped : first ≡ (get_or p.areas 0 no_area).start + 2 ^ 64 = rw t refl in absurd (omega arith)
-        | inr q ↦ let t : nat_lt (get_or p.areas 0 no_area).start p.base ≡ false = le-ltb (get_or p.areas 0 no_area).start p.base q in rw t refl ]
+          | inl q ↦ let t : nat_lt (get_or p.areas 0 no_area).start p.base ≡ true = lt-ltb (get_or p.areas 0 no_area).start p.base q in
+              let wrapped : first ≡ (get_or p.areas 0 no_area).start + 2 ^ 64 = rw t refl in absurd (omega arith)
+          | inr q ↦ let t : nat_lt (get_or p.areas 0 no_area).start p.base ≡ false = le-ltb (get_or p.areas 0 no_area).start p.base q in rw t refl
+        ]
 
     pub segment_is : (s : Phdr) → s.kind ≡ 1 → s.flags ≡ 5 → s.offset ≡ file_place p first → s.vaddr ≡ (get_or p.areas 0 no_area).start → s.paddr ≡ (get_or p.areas 0 no_area).start
         → s.filesz ≡ file_place p last - file_place p first → s.memsz ≡ file_place p last - file_place p first → s.align ≡ 4096 → s ≡ segment_of p Text
@@ -74,8 +72,8 @@ module _ (inputs : List Input) (p : Placement) (g : Graph) (stand : StandInText 
         let size : file_place p last - file_place p first ≡ last - first = omega arith in
         phdr-eq s (segment_of p Text) k f o (v ∙ start_kept) (a ∙ start_kept) (z ∙ size) (m ∙ size) l
       where
-      phdr-eq : (x y : Phdr) → x.kind ≡ y.kind → x.flags ≡ y.flags → x.offset ≡ y.offset → x.vaddr ≡ y.vaddr → x.paddr ≡ y.paddr → x.filesz ≡ y.filesz → x.memsz ≡ y.memsz → x.align ≡ y.align → x ≡ y
-      phdr-eq x y a b c d e f g h = rw (a, b, c, d, e, f, g, h) refl
+        phdr-eq : (x y : Phdr) → x.kind ≡ y.kind → x.flags ≡ y.flags → x.offset ≡ y.offset → x.vaddr ≡ y.vaddr → x.paddr ≡ y.paddr → x.filesz ≡ y.filesz → x.memsz ≡ y.memsz → x.align ≡ y.align → x ≡ y
+        phdr-eq x y a b c d e f g h = rw (a, b, c, d, e, f, g, h) refl
 
     pub full : (img : List ℕ) → ehdr_at img 0 ≡ head_with (entry_address p g) 1 → (s : Phdr) → s ≡ segment_of p Text → phdrs_from img 64 1 ≡ s ∷ []
         → IsPaddedAndFilled img (file_place p first) (file_place p last) p inputs g → IsTextImage img p inputs g
@@ -90,8 +88,9 @@ module _ (inputs : List Input) (p : Placement) (g : Graph) (stand : StandInText 
           segments = segments-read img (head_with (entry_address p g) 1) 1 (segment_of p Text ∷ []) head refl refl here ∙ sym one;
           len = f.len ∙ rw (one, size_is, far, top) refl;
           zeros = rw one (λ k l out. elim (out 0 (segment_of p Text) (omega arith)) [
-            inl q ↦ filled.rest k l (λ n h. let within = stand.within n h in inl (omega arith)) ∙ f.padding.zeros k q
-          | inr q ↦ let len = f.len in get_or_past img k 0 (omega arith) ]);
+            | inl q ↦ filled.rest k l (λ n h. let within = stand.within n h in inl (omega arith)) ∙ f.padding.zeros k q
+            | inr q ↦ let len = f.len in get_or_past img k 0 (omega arith)
+          ]);
           pieces = filled.pieces;
           hold = filled.hold;
           padding = λ a w out. (let l = w.0 in let r = w.1 in filled.rest (file_place p a) (omega arith) out ∙ f.padding.ints (file_place p a) (omega arith) (omega arith));

@@ -1,6 +1,6 @@
 -- A graph of text that is laid out: each piece stands in text, apart from all others, and nothing else has a byte.
-use Rattle.std.proofs.Common.{ℕ, zero, suc, ◌≡◌, ◌+◌, ◌-◌, ◌*◌, ◌/◌, ◌%◌, ◌^◌, ◌<◌, ◌≤◌, ◌∙◌, List, [], ◌∷◌, ◌++◌, length, get_or, map, refl, ap, sym, arith, inl, inr, ◌⊎◌, Bool, true, false, Option}
-use Rattle.std.specs.Prelude.{Some, None, All, Contains, slice_get, slice_index_or}
+use Rattle.std.proofs.Common.{ℕ, zero, suc, ◌≡◌, ◌+◌, ◌-◌, ◌/◌, ◌%◌, ◌^◌, ◌<◌, ◌≤◌, ◌∙◌, List, [], ◌∷◌, length, get_or, map, refl, ap, sym, arith, inl, inr, ◌⊎◌}
+use Rattle.std.specs.Prelude.{None, All, Contains, slice_index_or}
 use Rattle.std.specs.List.{range_with_len}
 use Rattle.std.proofs.Math.Nat.{mul-mod_left}
 use Rattle.std.proofs.lemmas.Bool.{cases_lt}
@@ -11,16 +11,15 @@ use Rattle.kl_le.specs.Bytes.{Within}
 use Rattle.kl_base.specs.declared.class.Class.{Class}
 use Rattle.kl_base.specs.declared.class.Class.TheVariants.{Text, Rodata, Rwdata, Bss}
 use Rattle.kl_model.specs.Kept.{class_number}
-use Rattle.kl_model.specs.Line.{line, spreads, inputs_in}
+use Rattle.kl_model.specs.Line.{line, spreads}
 use Rattle.kl_model.specs.Fit.{IsKernelKit}
 use Rattle.kl_model.specs.Lists.{each}
 use Rattle.std.proofs.lemmas.List.Elements.{All-append}
-use Rattle.kl_model.specs.Laid.{Laid, ClassLaid, class_end, IsArea, AreasStand, Stand, area_at, end_of, no_area, page, place_of, reach, span, start_of, up}
-use Rattle.kl_model.specs.Carries.{Names, InArea, InPart, class_size, piece_at, no_piece, span_limit}
+use Rattle.kl_model.specs.Laid.{Laid, ClassLaid, class_end, IsArea, Stand, area_at, end_of, no_area, page, place_of, reach, span, start_of, up}
+use Rattle.kl_model.specs.Carries.{Names, InPart, class_size, piece_at, no_piece, span_limit}
 use Rattle.kl_model.specs.Orders.{IsOrder, drawn_count}
 use Rattle.kl_model.specs.Placed.{placed, stop_in}
 use Rattle.kl_model.specs.Simple.{IsSimpleGraph}
-use Rattle.kl_model.specs.declared.object.Part.TheVariants.{Drawn}
 use Rattle.kl_model.specs.declared.place.Body.{Body}
 use Rattle.kl_model.specs.declared.place.Body.TheVariants as body
 use Rattle.kl_model.specs.declared.place.LinePart.{LinePart}
@@ -29,15 +28,15 @@ use Rattle.kl_model.specs.declared.place.Placement.{Placement}
 use Rattle.kl_model.specs.declared.graph.Piece.{Piece}
 use Rattle.kl_model.specs.declared.graph.Graph.{Graph}
 use Rattle.kl_model.specs.declared.kit.Kit.{Kit}
-use Rattle.kl_model.proofs.InOrder.{Aligned, IsLaidFrom, area_is, areas-stand, class_is, end-reach, get_found, in_order, le-reach, le-start}
+use Rattle.kl_model.proofs.InOrder.{Aligned, IsLaidFrom, area_is, areas-stand, class_is, end-reach, get_found, in_order, le-start}
 use Rattle.kl_model.proofs.ClassMemory.{InOrder}
 use Rattle.kl_model.proofs.Carried.{part_within, parts_apart}
-use Rattle.kl_model.proofs.Covered.{In, here, there, IsWhole, in_line, index_of, part_of}
+use Rattle.kl_model.proofs.Covered.{In, here, there, in_line, index_of, part_of}
 use Rattle.kl_model.proofs.Each.{each-all}
 use Rattle.kl_model.proofs.Addresses.{up_page-lt}
 use Rattle.kl_layout.specs.Spans.{no_made}
 use Rattle.kl_layout.specs.TextLine.{text_line}
-use Rattle.kl_layout.proofs.Lines.{aligned_parts, line_bss, line_pieces, line_rodata, line_rwdata, line_text, spreads_text}
+use Rattle.kl_layout.proofs.Lines.{aligned_parts, line_bss, line_pieces, line_rodata, line_rwdata, line_text}
 use Rattle.kl_kernel.specs.TextImage.{OnlyText, StandInText, stands_at}
 
 -- what a list has at some place is in it
@@ -174,13 +173,13 @@ module _ (kit : Kit) (g : Graph) (order : List ℕ) (p : Placement) (fit : IsKer
       let other = index_is m h d in
       let ordered = parts_apart at kit.base text aligned_text standing in
       elim (cases_lt (index n k) (index m h)) [
-        inl q ↦ inl (rw (one, other) at (ordered (index n k) (index m h) d q (index-lt m h)))
-      | inr q ↦ elim (cases_lt (index m h) (index n k)) [
-          inl r ↦ inr (rw (one, other) at (ordered (index m h) (index n k) d r (index-lt n k)))
-        | inr r ↦
-          let same : index n k ≡ index m h = omega (arith, q, r) in
-          let number : n ≡ m = ap (λ (x : LinePart). number_of x.body) (sym one ∙ (ap (λ i. get_or text i d) same ∙ other)) in
-          absurd (omega (arith, l, number))
+        | inl q ↦ inl (rw (one, other) at (ordered (index n k) (index m h) d q (index-lt m h)))
+        | inr q ↦ elim (cases_lt (index m h) (index n k)) [
+          | inl r ↦ inr (rw (one, other) at (ordered (index m h) (index n k) d r (index-lt n k)))
+          | inr r ↦
+              let same : index n k ≡ index m h = omega (arith, q, r) in
+              let number : n ≡ m = ap (λ (x : LinePart). number_of x.body) (sym one ∙ (ap (λ i. get_or text i d) same ∙ other)) in
+              absurd (omega (arith, l, number))
         ]
       ]
 

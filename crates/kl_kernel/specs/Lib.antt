@@ -1,1 +1,2 @@
 pub mod TextImage
+pub mod OneTarget

@@ -128,11 +128,7 @@ fn write_field(
 /// # Errors
 ///
 /// `Range` of the first field whose value is out of range.
-pub fn write_fields(
-    image: &mut [u8],
-    graph: &Graph,
-    placement: &Placement,
-) -> Result<(), LinkFault>
+pub fn write_fields(image: &mut [u8], graph: &Graph, placement: &Placement) -> Result<(), LinkFault>
     requires stands { StandInText placement.now graph.now }
     requires fields { All (IsSimpleField graph.now) graph.now.fields }
     requires apart { AllPairs StandApart graph.now.fields }

@@ -3,7 +3,9 @@
 
 mod fields;
 mod image;
+mod laws;
 mod link;
 mod pieces;
 
+pub use laws::one_target;
 pub use link::link_kernel;

@@ -23,8 +23,8 @@ const NOTHING_MADE: Made = Made {
 
 /// Links a kernel: `order` has the numbers of the drawn inputs in the order in which they stand.
 ///
-/// So far a kit is simple: its allocated sections are text, its names are GLOBAL, its fields have the types 64, PC32 and
-/// PLT32 (psABI, "Relocation Types"), and there are no gaps.
+/// So far a kit is simple, as `kl_sym::is_simple` answers: its allocated sections are text, its names are GLOBAL, its fields
+/// have the types NONE, 64, PC32 and PLT32 (psABI, "Relocation Types") or are faults. And there are no gaps.
 /// With `Ok` the image and its placement carry the kit's link graph under that order.
 ///
 /// # Errors

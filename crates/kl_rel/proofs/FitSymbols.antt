@@ -1,5 +1,5 @@
 -- The symbols of a file without a flaw are fit to be linked.
-use Rattle.std.proofs.Common.{ℕ, zero, suc, ◌≡◌, ◌≢◌, ◌+◌, ◌-◌, ◌<◌, ◌≤◌, ◌^◌, ◌⊎◌, inl, inr, Bool, true, false, cond, not, ◌&&◌, ◌||◌, List, [], ◌∷◌, length, get_or, map, refl, arith, eqb-true, eq-eqb, ne_eqb}
+use Rattle.std.proofs.Common.{ℕ, zero, suc, ◌≡◌, ◌≢◌, ◌+◌, ◌-◌, ◌<◌, ◌≤◌, ◌^◌, ◌⊎◌, inl, inr, Bool, true, false, cond, not, ◌&&◌, ◌||◌, List, [], ◌∷◌, length, get_or, take, map, refl, arith, eqb-true, eq-eqb, ne_eqb}
 use Rattle.std.specs.Prelude.{Option, Some, None, ◌==◌, nat_lt, unwrap_or, is_none, All}
 use Rattle.std.specs.List.{range_with_len}
 use Rattle.std.proofs.lemmas.Bool.{eqb-false, ltb-false, ltb-true, leb-false, lt-leb}
@@ -156,22 +156,19 @@ others b k d e low high =
     right false z e = e
 
 -- the first symbol, where there is one
-null_first : (b : List ℕ) (d : Symbol) → 0 < length (symbols_in b) → get_or (symbols_in b) 0 d ≡ no_symbol
+first_is_null : (b : List ℕ) → All (λ y. (y.binding ≡ 0) × (y.section ≡ 0)) (take 1 (symbols_in b))
 unfolding symbols_in
-null_first b d some = go (symbol_count b == 0) some
+first_is_null b = go (symbol_count b == 0)
   where
-    go : (x : Bool) → 0 < length (cond x [] (no_symbol ∷ map (symbol_of b) (range_with_len 1 (symbol_count b - 1)))) → get_or (cond x [] (no_symbol ∷ map (symbol_of b) (range_with_len 1 (symbol_count b - 1)))) 0 d ≡ no_symbol
-    go true some = absurd (omega arith)
-    go false some = refl
+    go : (x : Bool) → All (λ y. (y.binding ≡ 0) × (y.section ≡ 0)) (take 1 (cond x [] (no_symbol ∷ map (symbol_of b) (range_with_len 1 (symbol_count b - 1)))))
+    go true k d h = absurd (omega arith)
+    go false zero d h = (refl, refl)
+    go false (suc k) d h = absurd (omega arith)
 
-pub symbols_are_fit : (b : List ℕ) → 0 < (head b).shnum → ranges_flaw b ≡ None → first_of (symbol_table_checks b) ≡ None → symbols_flaw b ≡ None → 0 < length (symbols_in b)
+pub symbols_are_fit : (b : List ℕ) → 0 < (head b).shnum → ranges_flaw b ≡ None → first_of (symbol_table_checks b) ≡ None → symbols_flaw b ≡ None
     → AreFitSymbols b (length (sections_in b)) (symbols_in b)
-symbols_are_fit b some ranges form e several = record {
+symbols_are_fit b some ranges form e = record {
   each_symbol = all_fit b (length (sections_in b)) (sections-length b) some ranges form e;
-  first = λ k d low high. first k d high;
+  first = first_is_null b;
   others = λ k d low high. others b k d e low high;
 }
-  where
-    first : (k : ℕ) (d : Symbol) → k < 1 → ((get_or (symbols_in b) k d).binding ≡ 0) × ((get_or (symbols_in b) k d).section ≡ 0)
-    first zero d high = rw (null_first b d several) (refl, refl)
-    first (suc k) d high = absurd (omega arith)

@@ -132,14 +132,13 @@ groups_are_fit b s = all_over (IsFitGroup b (object b)) (groups_at b) 1 ((head b
     of_section n low high false is = λ k d h. absurd (omega arith)
 
 -- an input of these bytes whose object is the one that stands in them
-pub object_is_fit : (b : List ℕ) → flaw b ≡ None → (x : Input) → x.bytes ≡ b → x.object ≡ object b → 0 < length x.object.symbols → IsFit x
+pub object_is_fit : (b : List ℕ) → flaw b ≡ None → (x : Input) → x.bytes ≡ b → x.object ≡ object b → IsFit x
 unfolding object
-object_is_fit b e x eb eo several =
+object_is_fit b e x eb eo =
     let s = is_sound b e in
-    let some_symbols : 0 < length (symbols_in b) = rw eo at several in
     record {
       sections = rw (eb, eo) (sections_are_fit b s.table s.ranges s.sections);
-      symbols = rw (eb, eo) (symbols_are_fit b s.some s.ranges s.form s.symbols some_symbols);
+      symbols = rw (eb, eo) (symbols_are_fit b s.some s.ranges s.form s.symbols);
       fields = rw eo (fields_are_fit b s.fields);
       apart = rw eo (fields_are_apart b s.some s.fields);
       ascending = rw eo (fields_ascend b s.some);

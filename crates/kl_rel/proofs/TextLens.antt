@@ -1,16 +1,15 @@
 -- The lengths of texts in a string table.
-use Rattle.std.proofs.Common.{ℕ, zero, suc, ◌≡◌, ◌+◌, ◌-◌, ◌*◌, ◌/◌, ◌<◌, ◌≤◌, ◌∙◌, Bool, true, false, cond, not, List, [], ◌∷◌, length, take, drop, min, refl, ap, sym, arith, ◌≢◌, le-ltb, lt-ltb, length-drop}
-use Rattle.std.specs.Prelude.{◌==◌, nat_lt, position, slice_range, unwrap_or, Option, Some, None}
+use Rattle.std.proofs.Common.{ℕ, zero, suc, ◌≡◌, ◌+◌, ◌-◌, ◌<◌, ◌≤◌, ◌∙◌, Bool, true, false, cond, not, List, [], ◌∷◌, length, take, drop, min, refl, ap, sym, arith, ◌≢◌, le-ltb, lt-ltb, length-drop}
+use Rattle.std.specs.Prelude.{◌==◌, nat_lt, position, slice_range, unwrap_or, Some, None}
 use Rattle.std.specs.Option.{option_map}
 use Rattle.std.specs.List.{position_or_len}
 use Rattle.std.proofs.lemmas.Bool.{ltb-true, ltb-false}
 use Rattle.std.proofs.lemmas.List.{length-take, drop-take}
 use Rattle.std.proofs.lemmas.List.Sums.{prefix_len-drop_all, prefix_len-le-length}
 use Rattle.std.proofs.Math.ListN.{drop_of_length-le}
-use Rattle.kl_base.specs.declared.class.Range.{Range}
 use Rattle.kl_elf.specs.declared.records.Shdr.{Shdr}
 use Rattle.kl_rel.specs.Headers.{string_in}
-use Rattle.kl_rel.specs.StringTables.{table_bytes, text_len, AreLens}
+use Rattle.kl_rel.specs.StringTables.{table_bytes, text_len}
 
 abbrev len_of : List ℕ → ℕ
 len_of xs = position_or_len (λ c. c == 0) xs

@@ -66,6 +66,13 @@ pub struct ReadFault {
     pub at: u64,
 }
 
+/// A flaw of this kind at this place of the file.
+pub(crate) fn fault_at(kind: ReadKind, at: u64) -> ReadFault
+    ensures { result ≡ record { kind = kind; at = at } }
+{
+    ReadFault { kind, at }
+}
+
 /// Why an object isn't read.
 #[derive(Clone, Copy, PartialEq, Eq, Debug)]
 pub enum ReadError {

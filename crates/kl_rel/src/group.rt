@@ -8,6 +8,7 @@ ghost use Rattle.kl_rel.specs.SymbolTables.{symbols_in, symbols_flaw, symbol_cou
 ghost use Rattle.kl_rel.specs.SectionGroups.{groups_flaw, groups_in, group_of, is_group, group_checks, group_form_checks, members_flaw, members, members_before, signature};
 ghost use Rattle.kl_rel.specs.Grouped.{IsGrouped, is_free};
 
+use crate::fault::fault_at;
 use crate::symbol::is_in_section;
 use crate::table::{SHT_SYMTAB, Table};
 use crate::{ReadError, ReadFault, ReadKind};
@@ -132,27 +133,18 @@ fn check_form(
     ensures { result_err result ≡ first_of (group_form_checks bytes.now place header.now) }
 {
     if header.size < 4 || header.size % 4 != 0 {
-        return Err(group_fault(place + 32));
+        return Err(fault_at(ReadKind::GroupForm, place + 32));
     }
     if table.section(bytes, header.link).kind != SHT_SYMTAB {
-        return Err(group_fault(place + 40));
+        return Err(fault_at(ReadKind::GroupForm, place + 40));
     }
     if header.info == 0 || u64::from(header.info) >= symbols {
-        return Err(group_fault(place + 44));
+        return Err(fault_at(ReadKind::GroupForm, place + 44));
     }
     if get::<4>(bytes, header.offset as usize) > GRP_COMDAT {
-        return Err(group_fault(header.offset));
+        return Err(fault_at(ReadKind::GroupForm, header.offset));
     }
     Ok(())
-}
-
-fn group_fault(at: u64) -> ReadFault
-    ensures { result ≡ record { kind = ReadKind.GroupForm; at = at } }
-{
-    ReadFault {
-        kind: ReadKind::GroupForm,
-        at,
-    }
 }
 
 /// Reads the members of a group, and marks each as grouped; `grouped` says by number which sections are in a group so far.
@@ -178,7 +170,7 @@ fn read_members(
         let place = header.offset + 4 * word;
         let member = get::<4>(bytes, place as usize) as u32;
         if !is_free(grouped, number, member) {
-            return Err(group_fault(place).into());
+            return Err(fault_at(ReadKind::GroupForm, place).into());
         }
         grouped[member as usize] = true;
         members.push(member)?;

@@ -35,7 +35,7 @@ pub fn read_object(alloc: Global, bytes: &[u8]) -> Result<Object, ReadError>
     ensures object { IfOk result (λ o. o ≡ object bytes.now) }
     ensures sound { OnOk result (flaw bytes.now ≡ None) }
     ensures flaw { IfErr result (IsAnswer (flaw bytes.now)) }
-    ensures fit { IfOk result (λ o. (x : Input) → x.bytes ≡ bytes.now → x.object ≡ o → 0 < length o.symbols → IsFit x) }
+    ensures fit { IfOk result (λ o. (x : Input) → x.bytes ≡ bytes.now → x.object ≡ o → IsFit x) }
 {
     let table = read_table(bytes)?;
     check_ranges(bytes, &table)?;

@@ -11,6 +11,7 @@ ghost use Rattle.kl_rel.specs.FieldLists.{IsApart};
 ghost use Rattle.kl_rel.specs.EntryLists.{AreEntries};
 ghost use Rattle.kl_rel.specs.Relocations.{relocations_flaw, fields_in, rela_checks, rela_flaw_of, is_rela, is_read, fields_of, fields_before, entries_flaw, entry_checks, listed_field, shares_byte};
 
+use crate::fault::fault_at;
 use crate::field::{FieldList, width};
 use crate::section::SHF_ALLOC;
 use crate::symbol::SymbolTable;
@@ -71,28 +72,25 @@ fn check_form(bytes: &[u8], table: &Table, place: u64, header: &Shdr) -> Result<
 {
     let target = table.section(bytes, header.info);
     if (header.kind == SHT_RELA || header.kind == SHT_REL) && header.info >= table.count {
-        return Err(link_fault(place + 44));
+        return Err(fault_at(ReadKind::RelaLink, place + 44));
     }
     if header.kind == SHT_REL && is_allocated(&target) {
-        return Err(ReadFault {
-            kind: ReadKind::RelaKindForm,
-            at: place + 4,
-        });
+        return Err(fault_at(ReadKind::RelaKindForm, place + 4));
     }
     if !is_read(header, &target) {
         return Ok(());
     }
     if target.kind == SHT_NOBITS {
-        return Err(link_fault(place + 44));
+        return Err(fault_at(ReadKind::RelaLink, place + 44));
     }
     if table.section(bytes, header.link).kind != SHT_SYMTAB {
-        return Err(link_fault(place + 40));
+        return Err(fault_at(ReadKind::RelaLink, place + 40));
     }
     if header.entsize != Rela::SIZE as u64 {
-        return Err(link_fault(place + 56));
+        return Err(fault_at(ReadKind::RelaLink, place + 56));
     }
     if header.size % Rela::SIZE as u64 != 0 {
-        return Err(link_fault(place + 32));
+        return Err(fault_at(ReadKind::RelaLink, place + 32));
     }
     Ok(())
 }
@@ -108,15 +106,6 @@ fn is_read(header: &Shdr, target: &Shdr) -> bool
     ensures { result ≡ (is_rela header.now && is_allocated target.now) }
 {
     header.kind == SHT_RELA && is_allocated(target)
-}
-
-fn link_fault(at: u64) -> ReadFault
-    ensures { result ≡ record { kind = ReadKind.RelaLink; at = at } }
-{
-    ReadFault {
-        kind: ReadKind::RelaLink,
-        at,
-    }
 }
 
 /// The entries of a relocation section.
@@ -194,19 +183,13 @@ impl Entries {
         ensures flaw { IfErr result (IsAnswer (first_of (entry_checks self.now.symbols self.now.size fields.old.fields place field.now))) }
     {
         if u64::from(field.symbol) >= self.symbols {
-            return Err(link_fault(place + 8).into());
+            return Err(fault_at(ReadKind::RelaLink, place + 8).into());
         }
         if !fits(field, self.size) {
-            return Err(ReadError::Flaw(ReadFault {
-                kind: ReadKind::RelaPlace,
-                at: place,
-            }));
+            return Err(fault_at(ReadKind::RelaPlace, place).into());
         }
         if !fields.push(alloc, field)? {
-            return Err(ReadError::Flaw(ReadFault {
-                kind: ReadKind::FieldOverlap,
-                at: place,
-            }));
+            return Err(fault_at(ReadKind::FieldOverlap, place).into());
         }
         Ok(())
     }

@@ -6,6 +6,7 @@ ghost use Rattle.kl_rel.specs.StringTables.{IsIndexed};
 ghost use Rattle.kl_rel.specs.Headers.{IsTable, table_checks, ranges_flaw};
 ghost use Rattle.kl_rel.specs.Sections.{section_name, is_linked_type, has_priority, is_alignment, is_too_large, flags_checks, form_checks, section_checks, listed_section, sections_flaw, sections_in};
 
+use crate::fault::fault_at;
 use crate::string::{StringTable, text_at};
 use crate::table::{SHT_NOBITS, SHT_NULL, Table};
 use crate::{Feature, ReadError, ReadFault, ReadKind};
@@ -86,10 +87,7 @@ fn read_section(
     ensures flaw { result_err result ≡ first_of (section_checks bytes.now names.now.header place header.now) }
 {
     let Some(name) = section_name(bytes, names, header) else {
-        return Err(ReadFault {
-            kind: ReadKind::NameRange,
-            at: place,
-        });
+        return Err(fault_at(ReadKind::NameRange, place));
     };
     if header.flags & SHF_ALLOC != 0 {
         check_flags(place, header)?;
@@ -125,13 +123,13 @@ fn check_flags(place: u64, header: &Shdr) -> Result<(), ReadFault>
     ensures { result_err result ≡ first_of (flags_checks place header.now) }
 {
     if header.flags & SHF_TLS != 0 {
-        return Err(unsupported(Feature::Tls, place + 8));
+        return Err(fault_at(ReadKind::Unsupported(Feature::Tls), place + 8));
     }
     if header.flags & SHF_COMPRESSED != 0 {
-        return Err(unsupported(Feature::Compressed, place + 8));
+        return Err(fault_at(ReadKind::Unsupported(Feature::Compressed), place + 8));
     }
     if header.flags & SHF_WRITE != 0 && header.flags & SHF_EXECINSTR != 0 {
-        return Err(unsupported(Feature::WriteExecute, place + 8));
+        return Err(fault_at(ReadKind::Unsupported(Feature::WriteExecute), place + 8));
     }
     Ok(())
 }
@@ -144,33 +142,18 @@ fn check_form(bytes: &[u8], place: u64, name: &Range, header: &Shdr) -> Result<(
     ensures { result_err result ≡ first_of (form_checks bytes.now place name.now header.now) }
 {
     if !is_linked_type(header.kind) {
-        return Err(unsupported(Feature::SectionType, place + 4));
+        return Err(fault_at(ReadKind::Unsupported(Feature::SectionType), place + 4));
     }
     if has_priority(text_at(bytes, name)) {
-        return Err(unsupported(Feature::Priority, place));
+        return Err(fault_at(ReadKind::Unsupported(Feature::Priority), place));
     }
     if header.addralign != 0 && !is_alignment(header.addralign) {
-        return Err(ReadFault {
-            kind: ReadKind::Align,
-            at: place + 48,
-        });
+        return Err(fault_at(ReadKind::Align, place + 48));
     }
     if is_too_large(header.size) {
-        return Err(ReadFault {
-            kind: ReadKind::SectionRange,
-            at: place + 32,
-        });
+        return Err(fault_at(ReadKind::SectionRange, place + 32));
     }
     Ok(())
-}
-
-pub(crate) fn unsupported(feature: Feature, at: u64) -> ReadFault
-    ensures { result ≡ record { kind = ReadKind.Unsupported feature; at = at } }
-{
-    ReadFault {
-        kind: ReadKind::Unsupported(feature),
-        at,
-    }
 }
 
 /// Whether an allocated section of this type is linked.

@@ -6,7 +6,8 @@ ghost use Rattle.kl_rel.specs.StringTables.{IsIndexed};
 ghost use Rattle.kl_rel.specs.Headers.{IsTable, ranges_flaw, head};
 ghost use Rattle.kl_rel.specs.SymbolTables.{IsSymbolTable, symbol_tables, second_table_flaw, table_form_checks, symbol_table_checks, symbol_form_checks, symbol_place_checks, symbol_flaw_of, symbol_of, symbols_flaw, symbols_in, symbol_in, symbol_checks, is_local, is_unnamed, has_section, is_in_section, is_common, strings};
 
-use crate::section::{NO_NAME, is_alignment, is_too_large, unsupported};
+use crate::fault::fault_at;
+use crate::section::{NO_NAME, is_alignment, is_too_large};
 use crate::string::StringTable;
 use crate::table::{SHT_STRTAB, SHT_SYMTAB, Table};
 use crate::{Feature, ReadError, ReadFault, ReadKind};
@@ -99,7 +100,7 @@ fn find_symbol_table(bytes: &[u8], table: &Table) -> Result<Option<u32>, ReadFau
     for number in 1..table.count {
         if table.section(bytes, number).kind == SHT_SYMTAB {
             if found.is_some() {
-                return Err(table_fault(table.place_of(number) + 4));
+                return Err(fault_at(ReadKind::SymbolTable, table.place_of(number) + 4));
             }
             found = Some(number);
         }
@@ -115,36 +116,18 @@ fn check_form(bytes: &[u8], table: &Table, place: u64, header: &Shdr) -> Result<
     ensures { result_err result ≡ first_of (table_form_checks bytes.now place header.now) }
 {
     if header.size == 0 || header.size % Sym::SIZE as u64 != 0 {
-        return Err(table_fault(place + 32));
+        return Err(fault_at(ReadKind::SymbolTable, place + 32));
     }
     if header.entsize != Sym::SIZE as u64 {
-        return Err(table_fault(place + 56));
+        return Err(fault_at(ReadKind::SymbolTable, place + 56));
     }
     if table.section(bytes, header.link).kind != SHT_STRTAB {
-        return Err(table_fault(place + 40));
+        return Err(fault_at(ReadKind::SymbolTable, place + 40));
     }
     if header.info == 0 || u64::from(header.info) > header.size / Sym::SIZE as u64 {
-        return Err(table_fault(place + 44));
+        return Err(fault_at(ReadKind::SymbolTable, place + 44));
     }
     Ok(())
-}
-
-fn table_fault(at: u64) -> ReadFault
-    ensures { result ≡ record { kind = ReadKind.SymbolTable; at = at } }
-{
-    ReadFault {
-        kind: ReadKind::SymbolTable,
-        at,
-    }
-}
-
-fn section_fault(at: u64) -> ReadFault
-    ensures { result ≡ record { kind = ReadKind.SymbolSection; at = at } }
-{
-    ReadFault {
-        kind: ReadKind::SymbolSection,
-        at,
-    }
 }
 
 /// Reads the symbols of an object, from number 0 on.
@@ -221,25 +204,22 @@ fn check_name(name: Option<Range>, first: bool, place: u64, symbol: &Sym) -> Res
     let binding = symbol.info / 16;
     let kind = symbol.info % 16;
     if is_unnamed(name, symbol) {
-        return Err(ReadFault {
-            kind: ReadKind::NameRange,
-            at: place,
-        });
+        return Err(fault_at(ReadKind::NameRange, place));
     }
     if first != (binding == STB_LOCAL) {
-        return Err(table_fault(place + 4));
+        return Err(fault_at(ReadKind::SymbolTable, place + 4));
     }
     if binding > STB_WEAK {
-        return Err(unsupported(Feature::Binding, place + 4));
+        return Err(fault_at(ReadKind::Unsupported(Feature::Binding), place + 4));
     }
     if kind == STT_TLS {
-        return Err(unsupported(Feature::Tls, place + 4));
+        return Err(fault_at(ReadKind::Unsupported(Feature::Tls), place + 4));
     }
     if kind == STT_GNU_IFUNC {
-        return Err(unsupported(Feature::Ifunc, place + 4));
+        return Err(fault_at(ReadKind::Unsupported(Feature::Ifunc), place + 4));
     }
     if kind > STT_COMMON {
-        return Err(unsupported(Feature::SymbolType, place + 4));
+        return Err(fault_at(ReadKind::Unsupported(Feature::SymbolType), place + 4));
     }
     Ok(())
 }
@@ -251,25 +231,22 @@ fn check_place(count: u32, place: u64, symbol: &Sym) -> Result<(), ReadFault>
     ensures { result_err result ≡ first_of (symbol_place_checks count place symbol.now) }
 {
     if symbol.shndx == SHN_XINDEX {
-        return Err(unsupported(Feature::Extended, place + 6));
+        return Err(fault_at(ReadKind::Unsupported(Feature::Extended), place + 6));
     }
     if !has_section(count, symbol) {
-        return Err(section_fault(place + 6));
+        return Err(fault_at(ReadKind::SymbolSection, place + 6));
     }
     if is_local(symbol) && (symbol.shndx == SHN_UNDEF || symbol.shndx == SHN_COMMON) {
-        return Err(section_fault(place + 6));
+        return Err(fault_at(ReadKind::SymbolSection, place + 6));
     }
     if symbol.shndx == SHN_COMMON && !is_alignment(symbol.value) {
-        return Err(ReadFault {
-            kind: ReadKind::Align,
-            at: place + 8,
-        });
+        return Err(fault_at(ReadKind::Align, place + 8));
     }
     if is_in_section(u32::from(symbol.shndx)) && is_too_large(symbol.value) {
-        return Err(section_fault(place + 8));
+        return Err(fault_at(ReadKind::SymbolSection, place + 8));
     }
     if symbol.shndx == SHN_COMMON && is_too_large(symbol.size) {
-        return Err(section_fault(place + 16));
+        return Err(fault_at(ReadKind::SymbolSection, place + 16));
     }
     Ok(())
 }

@@ -6,6 +6,7 @@ ghost use Rattle.kl_elf.specs.Records.{ehdr_at};
 ghost use Rattle.kl_rel.specs.Flaws.{first_of};
 ghost use Rattle.kl_rel.specs.Headers.{section, head_flaw, table_checks, range_flaw, ranges_flaw, header_place, null_header, IsTable};
 
+use crate::fault::fault_at;
 use crate::{Feature, ReadFault, ReadKind};
 use kl_elf::{Ehdr, Shdr, read_ehdr};
 
@@ -79,10 +80,7 @@ pub(crate) fn read_table(bytes: &[u8]) -> Result<Table, ReadFault>
 {
     match read_ehdr(bytes) {
         Ok(head) => table_of(bytes, &head),
-        Err((fault, at)) => Err(ReadFault {
-            kind: ReadKind::Head(fault),
-            at,
-        }),
+        Err((fault, at)) => Err(fault_at(ReadKind::Head(fault), at)),
     }
 }
 
@@ -95,16 +93,16 @@ fn table_of(bytes: &[u8], head: &Ehdr) -> Result<Table, ReadFault>
     ensures flaw { result_err result ≡ first_of (table_checks bytes.now) }
 {
     if head.shnum == 0 && head.shoff != 0 {
-        return Err(extended(60));
+        return Err(fault_at(ReadKind::Unsupported(Feature::Extended), 60));
     }
     if head.shstrndx == SHN_XINDEX {
-        return Err(extended(62));
+        return Err(fault_at(ReadKind::Unsupported(Feature::Extended), 62));
     }
     if head.shnum == 0 {
-        return Err(table_fault(60));
+        return Err(fault_at(ReadKind::SectionTable, 60));
     }
     if !lies_in(bytes, head.shoff, 64 * u64::from(head.shnum)) {
-        return Err(table_fault(40));
+        return Err(fault_at(ReadKind::SectionTable, 40));
     }
     let table = Table {
         place: head.shoff,
@@ -112,27 +110,9 @@ fn table_of(bytes: &[u8], head: &Ehdr) -> Result<Table, ReadFault>
         names: u32::from(head.shstrndx),
     };
     if table.section(bytes, table.names).kind != SHT_STRTAB {
-        return Err(table_fault(62));
+        return Err(fault_at(ReadKind::SectionTable, 62));
     }
     Ok(table)
-}
-
-fn extended(at: u64) -> ReadFault
-    ensures { result ≡ record { kind = ReadKind.Unsupported Feature.Extended; at = at } }
-{
-    ReadFault {
-        kind: ReadKind::Unsupported(Feature::Extended),
-        at,
-    }
-}
-
-fn table_fault(at: u64) -> ReadFault
-    ensures { result ≡ record { kind = ReadKind.SectionTable; at = at } }
-{
-    ReadFault {
-        kind: ReadKind::SectionTable,
-        at,
-    }
 }
 
 /// Whether `size` bytes from `offset` on lie in the file.
@@ -169,10 +149,7 @@ fn check_range(bytes: &[u8], place: u64, section: &Shdr) -> Result<(), ReadFault
 {
     let has_bytes = section.kind != SHT_NULL && section.kind != SHT_NOBITS;
     if has_bytes && !lies_in(bytes, section.offset, section.size) {
-        return Err(ReadFault {
-            kind: ReadKind::SectionRange,
-            at: place + 24,
-        });
+        return Err(fault_at(ReadKind::SectionRange, place + 24));
     }
     Ok(())
 }

@@ -1,7 +1,6 @@
 use crate::{Feature, ReadError, ReadFault, ReadKind, read_object};
 use kl_base::Range;
 use kl_elf::HeadFault;
-use kl_le::put;
 use kl_model::{RawField, Section, Symbol};
 use std::test::Fail;
 
@@ -57,6 +56,28 @@ const OBJECT: [u8; 712] = [
     0, 0, 8, 0, 0, 0, 0, 0, 0, 0, 3, 0, 0, 0, 1, 0, 0, 0, 4, 0, 0, 0, 0, 0, 0, 0, 4, 0, 0, 0, 0, 0,
     0, 0,
 ];
+
+/// `call start`, aligned to 16, as `as --64 -mx86-used-note=no` and `objcopy -R .data -R .bss` write it: the entry at 128 has
+/// its field in the last four of five bytes.
+const CALL: [u8; 576] = *b"\
+    \x7fELF\x02\x01\x01\0\0\0\0\0\0\0\0\0\x01\0>\0\x01\0\0\0\0\0\0\0\0\0\0\0\0\0\0\0\0\0\0\0\xc0\0\0\0\0\0\0\0\0\0\
+    \0\0@\0\0\0\0\0@\0\x06\0\x05\0\
+    \xe8\0\0\0\0\0\0\0\0\0\0\0\0\0\0\0\0\0\0\0\0\0\0\0\0\0\0\0\0\0\0\0\x01\0\0\0\x10\0\0\0\0\0\0\0\0\0\0\0\0\0\0\0\
+    \0\0\0\0\0start\0\0\
+    \x01\0\0\0\0\0\0\0\x04\0\0\0\x01\0\0\0\xfc\xff\xff\xff\xff\xff\xff\xff\0.symtab\0.strtab\0.shstrtab\0.rela.tex\
+    t\0\0\0\
+    \0\0\0\0\0\0\0\0\0\0\0\0\0\0\0\0\0\0\0\0\0\0\0\0\0\0\0\0\0\0\0\0\0\0\0\0\0\0\0\0\0\0\0\0\0\0\0\0\0\0\0\0\0\0\0\
+    \0\0\0\0\0\0\0\0\0\
+    \x20\0\0\0\x01\0\0\0\x06\0\0\0\0\0\0\0\0\0\0\0\0\0\0\0@\0\0\0\0\0\0\0\x05\0\0\0\0\0\0\0\0\0\0\0\0\0\0\0\x10\0\
+    \0\0\0\0\0\0\0\0\0\0\0\0\0\0\
+    \x1b\0\0\0\x04\0\0\0@\0\0\0\0\0\0\0\0\0\0\0\0\0\0\0\x80\0\0\0\0\0\0\0\x18\0\0\0\0\0\0\0\x03\0\0\0\x01\0\0\0\
+    \x08\0\0\0\0\0\0\0\x18\0\0\0\0\0\0\0\
+    \x01\0\0\0\x02\0\0\0\0\0\0\0\0\0\0\0\0\0\0\0\0\0\0\0H\0\0\0\0\0\0\00\0\0\0\0\0\0\0\x04\0\0\0\x01\0\0\0\x08\0\0\
+    \0\0\0\0\0\x18\0\0\0\0\0\0\0\
+    \x09\0\0\0\x03\0\0\0\0\0\0\0\0\0\0\0\0\0\0\0\0\0\0\0x\0\0\0\0\0\0\0\x07\0\0\0\0\0\0\0\0\0\0\0\0\0\0\0\x01\0\0\
+    \0\0\0\0\0\0\0\0\0\0\0\0\0\
+    \x11\0\0\0\x03\0\0\0\0\0\0\0\0\0\0\0\0\0\0\0\0\0\0\0\x98\0\0\0\0\0\0\0&\0\0\0\0\0\0\0\0\0\0\0\0\0\0\0\x01\0\0\
+    \0\0\0\0\0\0\0\0\0\0\0\0\0";
 
 /// The object with some of its bytes changed.
 fn changed(changes: &[(usize, u8)]) -> [u8; 712] {
@@ -140,21 +161,29 @@ fn reads_the_fields_and_groups_of_an_object(rt: HostRuntime) {
 
 #[test]
 fn tells_an_object_that_is_cut_short(rt: HostRuntime) {
-    for len in 0..712 {
-        let fault = if len < 64 {
-            ReadFault {
-                kind: ReadKind::Head(HeadFault::Truncated),
-                at: len as u64,
-            }
-        } else {
-            ReadFault {
-                kind: ReadKind::SectionTable,
-                at: 40,
-            }
-        };
-        let read = read_object(rt.alloc(), &OBJECT[..len]);
-        assert_eq!(rt; read.err(), Some(ReadError::Flaw(fault)));
+    for object in [OBJECT.as_slice(), CALL.as_slice()] {
+        for len in 0..object.len() {
+            let flaw = if len < 64 {
+                flaw(ReadKind::Head(HeadFault::Truncated), len as u64)
+            } else {
+                flaw(ReadKind::SectionTable, 40)
+            };
+            let read = read_object(rt.alloc(), &object[..len]);
+            assert_eq!(rt; read.err(), flaw.map(ReadError::Flaw));
+        }
     }
+}
+
+#[test]
+fn tells_a_field_that_passes_its_section(rt: HostRuntime) {
+    let mut bytes = CALL;
+    assert!(rt; read_object(rt.alloc(), &bytes).is_ok());
+    bytes[128] = 2;
+    let read = read_object(rt.alloc(), &bytes);
+    assert_eq!(rt;
+        read.err(),
+        flaw(ReadKind::RelaPlace, 128).map(ReadError::Flaw)
+    );
 }
 
 #[test]
@@ -215,9 +244,9 @@ fn tells_the_first_flaw(rt: HostRuntime) {
             332,
         ),
         (
-            &[(396, 9), (400, 2)],
+            &[(460, 9), (464, 2)],
             ReadKind::Unsupported(Feature::SectionType),
-            396,
+            460,
         ),
         (
             &[
@@ -303,8 +332,8 @@ fn tells_the_first_flaw(rt: HostRuntime) {
 #[test]
 fn reads_what_has_no_flaw(rt: HostRuntime) {
     // a field of 4 bytes at 12 and then one of 8 at 4, an entry of no width at the end, an alignment of 0, a common
-    // symbol, a symbol at 2^30, and the bytes of section 0 and of symbol 0
-    let rows: [&[(usize, u8)]; 7] = [
+    // symbol, a symbol at 2^30, the bytes of section 0 and of symbol 0, and no symbol table
+    let rows: [&[(usize, u8)]; 8] = [
         &[(80, 12), (104, 4)],
         &[(88, 0), (80, 16)],
         &[(376, 0)],
@@ -312,6 +341,7 @@ fn reads_what_has_no_flaw(rt: HostRuntime) {
         &[(187, 0x40)],
         &[(268, 2), (272, 7)],
         &[(128, 9), (132, 0xff)],
+        &[(396, 1), (460, 1), (652, 1)],
     ];
     for changes in rows {
         let read = read_object(rt.alloc(), &changed(changes));
@@ -319,87 +349,175 @@ fn reads_what_has_no_flaw(rt: HostRuntime) {
     }
 }
 
+/// Where a field of a header is 0, 1, the file's length and 2^64 - 1, cut to its width: the flaws of the four.
+type Flaws = [Option<ReadFault>; 4];
+
+fn flaw(kind: ReadKind, at: u64) -> Option<ReadFault> {
+    Some(ReadFault { kind, at })
+}
+
+/// The same flaw of all four.
+fn any(kind: ReadKind, at: u64) -> Flaws {
+    [flaw(kind, at); 4]
+}
+
+/// A flaw of the two large ones.
+fn large(kind: ReadKind, at: u64) -> Flaws {
+    [None, None, flaw(kind, at), flaw(kind, at)]
+}
+
+/// A flaw of all but 1.
+fn not_one(kind: ReadKind, at: u64) -> Flaws {
+    [flaw(kind, at), None, flaw(kind, at), flaw(kind, at)]
+}
+
 #[test]
 fn tells_a_header_field_that_is_off(rt: HostRuntime) {
-    let table = |at: u64| Some((ReadKind::SectionTable, at));
-    let range = |at: u64| Some((ReadKind::SectionRange, at));
-    // the flaw where the field is 0, 1, the file's length and 2^64 - 1: `e_shoff`, and then `sh_offset` and `sh_size` of the
-    // text, its relocation section, the symbol table and the group
+    let extended = ReadKind::Unsupported(Feature::Extended);
+    let table = |at: u64| flaw(ReadKind::SectionTable, at);
+    let tls = |at: u64| [
+        None,
+        None,
+        None,
+        flaw(ReadKind::Unsupported(Feature::Tls), at),
+    ];
+    // two flaws of the small ones, and one of the large ones
+    let range = |zero: ReadKind, at_zero: u64, one: ReadKind, at_one: u64, at: u64| {
+        let past = flaw(ReadKind::SectionRange, at);
+        [flaw(zero, at_zero), flaw(one, at_one), past, past]
+    };
     let rows = [
-        (40, [table(62), table(62), table(40), table(40)]),
-        (352, [None, None, range(352), range(352)]),
+        // the file header
+        (16, 2, not_one(ReadKind::Head(HeadFault::FileType), 16)),
+        (18, 2, any(ReadKind::Head(HeadFault::Machine), 18)),
+        (20, 4, not_one(ReadKind::Head(HeadFault::FileVersion), 20)),
+        (24, 8, [None; 4]),
+        (32, 8, [None; 4]),
+        (40, 8, [table(62), table(62), table(40), table(40)]),
+        (48, 4, [None; 4]),
+        (52, 2, any(ReadKind::Head(HeadFault::HeadSize), 52)),
+        (54, 2, [None; 4]),
+        (56, 2, [None; 4]),
+        (58, 2, any(ReadKind::Head(HeadFault::SectionSize), 58)),
+        (60, 2, [flaw(extended, 60), table(62), table(40), table(40)]),
+        (62, 2, [table(62), table(62), table(62), flaw(extended, 62)]),
+        // section 0
+        (268, 4, [None; 4]),
+        (272, 8, [None; 4]),
+        (288, 8, [None; 4]),
+        (296, 8, [None; 4]),
+        // .text
+        (328, 4, large(ReadKind::NameRange, 328)),
+        (
+            332,
+            4,
+            not_one(ReadKind::Unsupported(Feature::SectionType), 332),
+        ),
+        (336, 8, tls(336)),
+        (344, 8, [None; 4]),
+        (352, 8, large(ReadKind::SectionRange, 352)),
         (
             360,
-            [
-                Some((ReadKind::RelaPlace, 80)),
-                Some((ReadKind::RelaPlace, 80)),
-                range(352),
-                range(352),
-            ],
+            8,
+            range(ReadKind::RelaPlace, 80, ReadKind::RelaPlace, 80, 352),
         ),
+        (368, 4, [None; 4]),
+        (372, 4, [None; 4]),
+        (376, 8, large(ReadKind::Align, 376)),
+        (384, 8, [None; 4]),
+        // .rela.text
+        (392, 4, large(ReadKind::NameRange, 392)),
+        (396, 4, [None; 4]),
+        (400, 8, tls(400)),
         (
             416,
-            [
-                Some((ReadKind::RelaPlace, 0)),
-                Some((ReadKind::RelaLink, 9)),
-                range(416),
-                range(416),
-            ],
+            8,
+            range(ReadKind::RelaPlace, 0, ReadKind::RelaLink, 9, 416),
         ),
         (
             424,
+            8,
             [
                 None,
-                Some((ReadKind::RelaLink, 424)),
-                range(416),
-                range(416),
+                flaw(ReadKind::RelaLink, 424),
+                flaw(ReadKind::SectionRange, 416),
+                flaw(ReadKind::SectionRange, 416),
             ],
         ),
+        (432, 4, any(ReadKind::RelaLink, 432)),
+        (436, 4, large(ReadKind::RelaLink, 436)),
+        (448, 8, any(ReadKind::RelaLink, 448)),
+        // .symtab
+        (456, 4, large(ReadKind::NameRange, 456)),
+        (460, 4, any(ReadKind::RelaLink, 432)),
+        (464, 8, tls(464)),
         (
             480,
-            [
-                Some((ReadKind::SymbolSection, 30)),
-                Some((ReadKind::SymbolSection, 31)),
-                range(480),
-                range(480),
-            ],
+            8,
+            range(
+                ReadKind::SymbolSection,
+                30,
+                ReadKind::SymbolSection,
+                31,
+                480,
+            ),
         ),
         (
             488,
+            8,
+            range(ReadKind::SymbolTable, 488, ReadKind::SymbolTable, 488, 480),
+        ),
+        (496, 4, any(ReadKind::SymbolTable, 496)),
+        (
+            500,
+            4,
             [
-                Some((ReadKind::SymbolTable, 488)),
-                Some((ReadKind::SymbolTable, 488)),
-                range(480),
-                range(480),
+                flaw(ReadKind::SymbolTable, 500),
+                flaw(ReadKind::SymbolTable, 156),
+                flaw(ReadKind::SymbolTable, 500),
+                flaw(ReadKind::SymbolTable, 500),
             ],
         ),
+        (512, 8, any(ReadKind::SymbolTable, 512)),
+        // .strtab
+        (520, 4, large(ReadKind::NameRange, 520)),
+        (524, 4, any(ReadKind::SymbolTable, 496)),
+        (544, 8, large(ReadKind::SectionRange, 544)),
+        (
+            552,
+            8,
+            range(ReadKind::NameRange, 152, ReadKind::NameRange, 176, 544),
+        ),
+        // .shstrtab
+        (588, 4, any(ReadKind::SectionTable, 62)),
+        (608, 8, large(ReadKind::SectionRange, 608)),
+        (
+            616,
+            8,
+            range(ReadKind::NameRange, 328, ReadKind::NameRange, 328, 608),
+        ),
+        // .group
+        (652, 4, [None; 4]),
         (
             672,
-            [
-                Some((ReadKind::GroupForm, 0)),
-                Some((ReadKind::GroupForm, 1)),
-                range(672),
-                range(672),
-            ],
+            8,
+            range(ReadKind::GroupForm, 0, ReadKind::GroupForm, 1, 672),
         ),
         (
             680,
-            [
-                Some((ReadKind::GroupForm, 680)),
-                Some((ReadKind::GroupForm, 680)),
-                range(672),
-                range(672),
-            ],
+            8,
+            range(ReadKind::GroupForm, 680, ReadKind::GroupForm, 680, 672),
         ),
+        (688, 4, any(ReadKind::GroupForm, 688)),
+        (692, 4, not_one(ReadKind::GroupForm, 692)),
     ];
-    for (place, flaws) in rows {
+    for (place, width, flaws) in rows {
+        assert!(rt; place <= 704 && width <= 8);
         for (value, flaw) in [0, 1, 712, u64::MAX].iter().zip(flaws) {
             let mut bytes = OBJECT;
-            assert!(rt; place <= 704);
-            put::<8>(&mut bytes, place, *value);
+            bytes[place..place + width].copy_from_slice(&value.to_le_bytes()[..width]);
             let read = read_object(rt.alloc(), &bytes);
-            let flaw = flaw.map(|(kind, at)| ReadError::Flaw(ReadFault { kind, at }));
-            assert_eq!(rt; read.err(), flaw);
+            assert_eq!(rt; read.err(), flaw.map(ReadError::Flaw));
         }
     }
 }

@@ -1,6 +1,6 @@
 -- The fields of the graph of a simple kit can be written.
-use Rattle.std.proofs.Common.{ℕ, zero, suc, ◌≡◌, ◌+◌, ◌-◌, ◌^◌, ◌<◌, ◌≤◌, ◌∙◌, List, [], ◌∷◌, ◌++◌, length, get_or, refl, ap, sym, arith, Bool, true, false, not, ◌&&◌, ◌||◌, cond, inl, inr, ◌⊎◌}
-use Rattle.std.specs.Prelude.{Some, None, Option, ◌==◌, All, AllPairs, IfSome, Result, Ok, Err, find, filter, map, codes, sum_by}
+use Rattle.std.proofs.Common.{ℕ, zero, suc, ◌≡◌, ◌+◌, ◌^◌, ◌<◌, ◌≤◌, ◌∙◌, List, [], ◌∷◌, length, get_or, refl, ap, sym, arith, Bool, true, false, not, ◌||◌, cond, inl, inr, ◌⊎◌}
+use Rattle.std.specs.Prelude.{Some, None, Option, ◌==◌, All, AllPairs, IfSome, Result, Ok, Err, find, filter, codes, sum_by}
 use Rattle.std.specs.Option.{option_map, option_and_then}
 use Rattle.std.proofs.lemmas.List.Sums.{sum_by-cons}
 use Rattle.std.specs.Result.{result_unwrap_or}
@@ -9,34 +9,30 @@ use Rattle.std.specs.Str.{bytes_eq}
 use Rattle.std.proofs.lemmas.Bool.{cases_Bool, cases_lt, eqb-true}
 use Rattle.std.proofs.lemmas.List.{get_or_default, get_or_past, append-nil}
 use Rattle.kl_le.specs.Bytes.{Within}
-use Rattle.kl_model.specs.Lists.{each, each_from, only_if}
 use Rattle.kl_model.specs.Texts.{has, text_at}
-use Rattle.kl_model.specs.Kept.{is_kept, input_at, no_input, no_section, section_at, name_at, named_area}
-use Rattle.kl_model.specs.Names.{Occurrence, occurrences, piece_number, definition, place_of, is_definition, is_common}
-use Rattle.kl_model.specs.Graphs.{Missing, Undefined, graph, piece_of, section_pieces, target, local_target, global_target, target_or, symbol_at, kept_field, input_fields, fields}
+use Rattle.kl_model.specs.Kept.{is_kept, input_at, no_input, no_section, section_at, name_at}
+use Rattle.kl_model.specs.Names.{Occurrence, occurrences, piece_number, definition, place_of, is_common}
+use Rattle.kl_model.specs.Graphs.{Missing, Undefined, graph, piece_of, section_pieces, target, target_or, symbol_at, kept_field, input_fields, fields}
 use Rattle.kl_model.specs.Carries.{no_piece, piece_at}
 use Rattle.kl_model.specs.Reaches.{width}
-use Rattle.kl_model.specs.Faults.{is_global_definition, is_kind, is_kept_field, field_faults, input_faults, all_field_faults}
-use Rattle.kl_model.specs.Fit.{AreFit, IsFit, IsFitField, ShareNoByte, section_in}
+use Rattle.kl_model.specs.Faults.{is_global_definition, is_kind, is_kept_field, input_faults, all_field_faults}
+use Rattle.kl_model.specs.Fit.{AreFit, IsFitField, ShareNoByte, section_in}
 use Rattle.kl_model.specs.Simple.{is_simple_field, IsSourced, IsSimpleTarget, IsSimpleField, StandApart, IsWritable}
-use Rattle.kl_base.specs.declared.class.Class.TheVariants.{Rodata}
 use Rattle.kl_model.specs.declared.object.RawField.{RawField}
 use Rattle.kl_model.specs.declared.object.Input.{Input}
 use Rattle.kl_model.specs.declared.kit.Kit.{Kit}
 use Rattle.kl_model.specs.declared.graph.Piece.{Piece}
-use Rattle.kl_model.specs.declared.graph.PieceId.{PieceId}
 use Rattle.kl_model.specs.declared.graph.PieceId.TheVariants as id
 use Rattle.kl_model.specs.declared.graph.Field.{Field}
 use Rattle.kl_model.specs.declared.graph.Target.{Target}
-use Rattle.kl_model.specs.declared.graph.Target.TheVariants.{Place, Abs, Zero}
-use Rattle.kl_model.specs.declared.link.LinkFault.{LinkFault}
+use Rattle.kl_model.specs.declared.graph.Target.TheVariants.{Zero}
 use Rattle.kl_model.specs.declared.link.LinkFault.TheVariants as fault
 use Rattle.kl_model.proofs.Each.{each-all, each-pairs, each-empty, all-only_if, pairs-only_if, length-each-le}
 use Rattle.kl_sym.specs.Index.{global_definitions}
-use Rattle.kl_sym.proofs.SimpleKits.{IsSimpleKit, and_left, and_right, or_right, not_true, pass_at, simple_fields, kept_simple, not_frame}
+use Rattle.kl_sym.proofs.SimpleKits.{IsSimpleKit, and_left, and_right, or_right, not_true, pass_at, simple_fields, not_frame}
 use Rattle.kl_sym.proofs.SimpleNames.{definition-simple, no_common_pieces}
 use Rattle.kl_sym.proofs.PieceNumbers.{only_if-le}
-use Rattle.kl_sym.proofs.SoundGraph.{own, piece_there, number-lt, code, all_pieces, sourced_own}
+use Rattle.kl_sym.proofs.SoundGraph.{piece_there, number-lt, code, all_pieces, sourced_own}
 use Rattle.kl_sym.proofs.FieldTargets.{field_faults_of, no_entry_at}
 
 no_section_unmarked : has no_section.flags 2 ≡ false
@@ -48,32 +44,37 @@ kept_known kit inputs i zero e = cc
 kept_known kit inputs i (suc k) e =
     let marked = and_left (has (section_at inputs i (suc k)).flags 2) _ e in
     elim (cases_lt k (length (input_at inputs i).object.sections)) [
-      inl l ↦ elim (cases_lt i (length inputs)) [
-        inl h ↦ (h, (k, refl, l))
-      | inr h ↦
-          let past : input_at inputs i ≡ no_input = get_or_past inputs i no_input h in
-          let none : length (input_at inputs i).object.sections ≡ 0 = rw past refl in
-          absurd (omega arith) ]
-    | inr l ↦
-        let past : section_at inputs i (suc k) ≡ no_section = get_or_past (input_at inputs i).object.sections k no_section l in
-        let no_mark = rw past at marked in cc ]
+      | inl l ↦ elim (cases_lt i (length inputs)) [
+        | inl h ↦ (h, (k, refl, l))
+        | inr h ↦
+            let past : input_at inputs i ≡ no_input = get_or_past inputs i no_input h in
+            let none : length (input_at inputs i).object.sections ≡ 0 = rw past refl in
+            absurd (omega arith)
+      ]
+      | inr l ↦
+          let past : section_at inputs i (suc k) ≡ no_section = get_or_past (input_at inputs i).object.sections k no_section l in
+          let no_mark = rw past at marked in cc
+    ]
 
 find_passes : {X : Type 0} (p same : X → Bool) (xs : List X) (x : X) → find same (filter p xs) ≡ Some x → p x ≡ true
 find_passes p same [] x e = cc
 find_passes p same (y ∷ ys) x e =
     elim (cases_Bool (p y)) [
-      inl a ↦
-        let found = rw a at e in
-        elim (cases_Bool (same y)) [
-          inl b ↦ let is : Some y ≡ Some x = rw b at found in let same_one : y ≡ x = cc in rw (← same_one) a
-        | inr b ↦ find_passes p same ys x (rw b at found) ]
-    | inr a ↦ find_passes p same ys x (rw a at e) ]
+      | inl a ↦
+          let found = rw a at e in
+          elim (cases_Bool (same y)) [
+            | inl b ↦ let is : Some y ≡ Some x = rw b at found in let same_one : y ≡ x = cc in rw (← same_one) a
+            | inr b ↦ find_passes p same ys x (rw b at found)
+          ]
+      | inr a ↦ find_passes p same ys x (rw a at e)
+    ]
 
 ranges_apart : (a w b v : ℕ) → 0 < w → 0 < v → ((q : ℕ) → Within a w q → Within b v q → ⊥) → (a + w ≤ b) ⊎ (b + v ≤ a)
 ranges_apart a w b v h l out =
     elim (cases_lt a b) [
-      inl q ↦ elim (cases_lt b (a + w)) [ inl r ↦ absurd (out b (omega arith, r) (omega arith, omega arith)) | inr r ↦ inl r ]
-    | inr q ↦ elim (cases_lt a (b + v)) [ inl r ↦ absurd (out a (omega arith, omega arith) (q, r)) | inr r ↦ inr r ] ]
+      | inl q ↦ elim (cases_lt b (a + w)) [ inl r ↦ absurd (out b (omega arith, r) (omega arith, omega arith)) | inr r ↦ inl r ]
+      | inr q ↦ elim (cases_lt a (b + v)) [ inl r ↦ absurd (out a (omega arith, omega arith) (q, r)) | inr r ↦ inr r ]
+    ]
 
 linked_width : (kind : ℕ) → (kind ≡ 1) ⊎ ((kind ≡ 2) ⊎ (kind ≡ 4)) → 0 < width kind
 linked_width kind (inl e) = rw e (omega arith)
@@ -95,15 +96,16 @@ module _ (kit : Kit) (inputs : List Input) (fit : AreFit inputs) (simple : IsSim
   place_simple o e =
       let defined = and_right (o.symbol.binding == 1) _ e in
       elim (cases_Bool (o.symbol.section == 0xfff1)) [
-        inl a ↦ rw a tt
-      | inr a ↦ rw a (number_known o.input o.symbol.section (and_right (not (is_common o)) _ (or_right (o.symbol.section == 0xfff1) _ defined a))) ]
+        | inl a ↦ rw a tt
+        | inr a ↦ rw a (number_known o.input o.symbol.section (and_right (not (is_common o)) _ (or_right (o.symbol.section == 0xfff1) _ defined a)))
+      ]
 
   pub definition_simple : (q : List ℕ) → IfSome (definition kit inputs q) (IsSimpleTarget (graph kit inputs))
   definition_simple q = rw (definition-simple kit inputs simple q) (go (find (λ o. bytes_eq o.name q) (global_definitions kit inputs)) refl)
     where
-    go : (r : Option Occurrence) → find (λ o. bytes_eq o.name q) (global_definitions kit inputs) ≡ r → IfSome (option_map (place_of kit inputs) r) (IsSimpleTarget (graph kit inputs))
-    go None e = tt
-    go (Some o) e = place_simple o (find_passes (is_global_definition kit inputs) (λ o. bytes_eq o.name q) (occurrences inputs) o e)
+      go : (r : Option Occurrence) → find (λ o. bytes_eq o.name q) (global_definitions kit inputs) ≡ r → IfSome (option_map (place_of kit inputs) r) (IsSimpleTarget (graph kit inputs))
+      go None e = tt
+      go (Some o) e = place_simple o (find_passes (is_global_definition kit inputs) (λ o. bytes_eq o.name q) (occurrences inputs) o e)
 
   or_zero : (o : Option Target) (r : Result Target Missing) → IfSome o (IsSimpleTarget (graph kit inputs)) → IsSimpleTarget (graph kit inputs) (result_unwrap_or r Zero)
       → IsSimpleTarget (graph kit inputs) (result_unwrap_or (target_or o r) Zero)
@@ -119,20 +121,24 @@ module _ (kit : Kit) (inputs : List Input) (fit : AreFit inputs) (simple : IsSim
   target_simple i s y kept =
       let symbol = symbol_at inputs i y in
       elim (cases_Bool (y == 0)) [
-        inl a ↦ rw a tt
-      | inr a ↦ elim (cases_Bool (symbol.binding == 0)) [
-          inl b ↦ elim (cases_Bool (symbol.section == 0xfff1)) [
-            inl c ↦ rw (a, b, c) tt
-          | inr c ↦ elim (cases_Bool (is_kept kit inputs i symbol.section)) [
-              inl d ↦ rw (a, b, c, d) (number_known i symbol.section d)
-            | inr d ↦ rw (a, b, c, d, outside_frame i s kept) tt ] ]
-        | inr b ↦ rw (a, b) (or_zero (definition kit inputs (text_at (input_at inputs i).bytes symbol.name)) _ (definition_simple (text_at (input_at inputs i).bytes symbol.name)) (weak_or_not (symbol.binding == 2))) ] ]
+        | inl a ↦ rw a tt
+        | inr a ↦ elim (cases_Bool (symbol.binding == 0)) [
+          | inl b ↦ elim (cases_Bool (symbol.section == 0xfff1)) [
+            | inl c ↦ rw (a, b, c) tt
+            | inr c ↦ elim (cases_Bool (is_kept kit inputs i symbol.section)) [
+              | inl d ↦ rw (a, b, c, d) (number_known i symbol.section d)
+              | inr d ↦ rw (a, b, c, d, outside_frame i s kept) tt
+            ]
+          ]
+          | inr b ↦ rw (a, b) (or_zero (definition kit inputs (text_at (input_at inputs i).bytes symbol.name)) _ (definition_simple (text_at (input_at inputs i).bytes symbol.name)) (weak_or_not (symbol.binding == 2)))
+        ]
+      ]
     where
-    outside_frame : (i s : ℕ) → is_kept kit inputs i s ≡ true → bytes_eq (name_at inputs i s) (codes ".eh_frame") ≡ false
-    outside_frame i s kept =
-        let known = kept_known kit inputs i s kept in
-        let is_code = code kit inputs fit simple i known.1.0 known.0 known.1.2 (rw known.1.1 at kept) in
-        rw known.1.1 (not_frame (text_at (input_at inputs i).bytes (get_or (input_at inputs i).object.sections known.1.0 no_section).name) is_code.no_area)
+      outside_frame : (i s : ℕ) → is_kept kit inputs i s ≡ true → bytes_eq (name_at inputs i s) (codes ".eh_frame") ≡ false
+      outside_frame i s kept =
+          let known = kept_known kit inputs i s kept in
+          let is_code = code kit inputs fit simple i known.1.0 known.0 known.1.2 (rw known.1.1 at kept) in
+          rw known.1.1 (not_frame (text_at (input_at inputs i).bytes (get_or (input_at inputs i).object.sections known.1.0 no_section).name) is_code.no_area)
 
   -- the field of a relocation entry
   abbrev pub made : ℕ → RawField → Field
@@ -162,16 +168,18 @@ module _ (kit : Kit) (inputs : List Input) (fit : AreFit inputs) (simple : IsSim
         let of_four : list_any (λ k. f.kind == k) (0 ∷ 1 ∷ 2 ∷ 4 ∷ []) ≡ true = first_true _ (not (is_kind f.kind)) one (ap not linked) in
         let of_three = or_right (f.kind == 0) _ of_four not_none in
         elim (cases_Bool (f.kind == 1)) [
-          inl a ↦ inl (eqb-true f.kind 1 a)
-        | inr a ↦
-            let of_two = or_right (f.kind == 1) _ of_three a in
-            elim (cases_Bool (f.kind == 2)) [
-              inl b ↦ inr (inl (eqb-true f.kind 2 b))
-            | inr b ↦ inr (inr (eqb-true f.kind 4 (first_true _ false (or_right (f.kind == 2) _ of_two b) refl))) ] ]
+          | inl a ↦ inl (eqb-true f.kind 1 a)
+          | inr a ↦
+              let of_two = or_right (f.kind == 1) _ of_three a in
+              elim (cases_Bool (f.kind == 2)) [
+                | inl b ↦ inr (inl (eqb-true f.kind 2 b))
+                | inr b ↦ inr (inr (eqb-true f.kind 4 (first_true _ false (or_right (f.kind == 2) _ of_two b) refl)))
+              ]
+        ]
       where
-      first_true : (a b : Bool) → (a || b) ≡ true → b ≡ false → a ≡ true
-      first_true true b e n = refl
-      first_true false b e n = cc
+        first_true : (a b : Bool) → (a || b) ≡ true → b ≡ false → a ≡ true
+        first_true true b e n = refl
+        first_true false b e n = cc
 
     -- the piece of its section
     piece_is : piece_at (graph kit inputs) (piece_number kit inputs i f.section) ≡ piece_of kit i (input_at inputs i) f.section (section_in (input_at inputs i).object f.section)
@@ -212,23 +220,24 @@ module _ (kit : Kit) (inputs : List Input) (fit : AreFit inputs) (simple : IsSim
     linked_is : (i : ℕ) (f : RawField) → is_kept_field kit inputs i f ≡ true → field_faults_of kit inputs i f ≡ [] → is_kind f.kind ≡ true
     linked_is i f kept none =
         elim (cases_Bool (is_kind f.kind)) [
-          inl a ↦ a
-        | inr a ↦ let some : fault.Kind (record { input = i; section = f.rela; index = f.index }) f.kind ∷ _ ≡ [] = rw (kept, a) at none in cc ]
+          | inl a ↦ a
+          | inr a ↦ let some : fault.Kind (record { input = i; section = f.rela; index = f.index }) f.kind ∷ _ ≡ [] = rw (kept, a) at none in cc
+        ]
 
     all_fields : All (IsSimpleField (graph kit inputs)) (fields kit inputs)
     all_fields =
         each-all (IsSimpleField (graph kit inputs)) 0 (input_fields kit inputs) inputs (λ i d h.
-          let x : get_or inputs i d ≡ input_at inputs i = get_or_default inputs i d no_input h in
-          let z : 0 + i ≡ i = omega arith in
-          rw (x, z) (each-all (IsSimpleField (graph kit inputs)) 0 (λ k f. kept_field kit inputs i f) (input_at inputs i).object.fields (λ k e l.
-            let f : get_or (input_at inputs i).object.fields k e ≡ get_or (input_at inputs i).object.fields k no_entry_at = get_or_default (input_at inputs i).object.fields k e no_entry_at l in
-            rw f (all-only_if (IsSimpleField (graph kit inputs)) _ _ (λ kept. one i k h l kept)))))
+        let x : get_or inputs i d ≡ input_at inputs i = get_or_default inputs i d no_input h in
+        let z : 0 + i ≡ i = omega arith in
+        rw (x, z) (each-all (IsSimpleField (graph kit inputs)) 0 (λ k f. kept_field kit inputs i f) (input_at inputs i).object.fields (λ k e l.
+        let f : get_or (input_at inputs i).object.fields k e ≡ get_or (input_at inputs i).object.fields k no_entry_at = get_or_default (input_at inputs i).object.fields k e no_entry_at l in
+        rw f (all-only_if (IsSimpleField (graph kit inputs)) _ _ (λ kept. one i k h l kept)))))
       where
-      one : (i k : ℕ) (h : i < length inputs) (l : k < length (input_at inputs i).object.fields)
-          → (kept : is_kept_field kit inputs i (get_or (input_at inputs i).object.fields k no_entry_at) ≡ true) → IsSimpleField (graph kit inputs) (made i (get_or (input_at inputs i).object.fields k no_entry_at))
-      one i k h l kept =
-          let f = get_or (input_at inputs i).object.fields k no_entry_at in
-          simple_made i f h ((fit.each_input i no_input h).fields k no_entry_at l)
+        one : (i k : ℕ) (h : i < length inputs) (l : k < length (input_at inputs i).object.fields)
+            → (kept : is_kept_field kit inputs i (get_or (input_at inputs i).object.fields k no_entry_at) ≡ true) → IsSimpleField (graph kit inputs) (made i (get_or (input_at inputs i).object.fields k no_entry_at))
+        one i k h l kept =
+            let f = get_or (input_at inputs i).object.fields k no_entry_at in
+            simple_made i f h ((fit.each_input i no_input h).fields k no_entry_at l)
             (pass_at (is_simple_field (input_at inputs i).object) (input_at inputs i).object.fields k no_entry_at (simple_fields (input_at inputs i) (simple.each_input i h)) l)
             (linked_is i f kept (no_faults i k h l)) kept
 
@@ -241,8 +250,8 @@ module _ (kit : Kit) (inputs : List Input) (fit : AreFit inputs) (simple : IsSim
     wide i k h l kept =
         let f = get_or (input_at inputs i).object.fields k no_entry_at in
         linked_width f.kind (kind_of i f h ((fit.each_input i no_input h).fields k no_entry_at l)
-          (pass_at (is_simple_field (input_at inputs i).object) (input_at inputs i).object.fields k no_entry_at (simple_fields (input_at inputs i) (simple.each_input i h)) l)
-          (linked_is i f kept (no_faults i k h l)) kept)
+        (pass_at (is_simple_field (input_at inputs i).object) (input_at inputs i).object.fields k no_entry_at (simple_fields (input_at inputs i) (simple.each_input i h)) l)
+        (linked_is i f kept (no_faults i k h l)) kept)
 
     apart_in : (i k j : ℕ) (h : i < length inputs) → k < j → (l : j < length (input_at inputs i).object.fields) → (m : k < length (input_at inputs i).object.fields)
         → is_kept_field kit inputs i (get_or (input_at inputs i).object.fields k no_entry_at) ≡ true
@@ -262,49 +271,49 @@ module _ (kit : Kit) (inputs : List Input) (fit : AreFit inputs) (simple : IsSim
     fields_apart : AllPairs StandApart (fields kit inputs)
     fields_apart =
         each-pairs StandApart 0 (input_fields kit inputs) inputs
-          (λ i d h.
-            let x : get_or inputs i d ≡ input_at inputs i = get_or_default inputs i d no_input h in
-            let z : 0 + i ≡ i = omega arith in
-            rw (x, z) (inside i h))
-          (λ i j d less h.
-            let first : i < length inputs = omega arith in
-            let x : get_or inputs i d ≡ input_at inputs i = get_or_default inputs i d no_input first in
-            let y : get_or inputs j d ≡ input_at inputs j = get_or_default inputs j d no_input h in
-            let z : 0 + i ≡ i = omega arith in
-            let w : 0 + j ≡ j = omega arith in
-            rw (x, y, z, w) (between i j less))
+        (λ i d h.
+        let x : get_or inputs i d ≡ input_at inputs i = get_or_default inputs i d no_input h in
+        let z : 0 + i ≡ i = omega arith in
+        rw (x, z) (inside i h))
+        (λ i j d less h.
+        let first : i < length inputs = omega arith in
+        let x : get_or inputs i d ≡ input_at inputs i = get_or_default inputs i d no_input first in
+        let y : get_or inputs j d ≡ input_at inputs j = get_or_default inputs j d no_input h in
+        let z : 0 + i ≡ i = omega arith in
+        let w : 0 + j ≡ j = omega arith in
+        rw (x, y, z, w) (between i j less))
       where
-      inside : (i : ℕ) → i < length inputs → AllPairs StandApart (input_fields kit inputs i (input_at inputs i))
-      inside i h =
-          let fs = (input_at inputs i).object.fields in
-          each-pairs StandApart 0 (λ k f. kept_field kit inputs i f) fs
+        inside : (i : ℕ) → i < length inputs → AllPairs StandApart (input_fields kit inputs i (input_at inputs i))
+        inside i h =
+            let fs = (input_at inputs i).object.fields in
+            each-pairs StandApart 0 (λ k f. kept_field kit inputs i f) fs
             (λ k d l. pairs-only_if StandApart (is_kept_field kit inputs i (get_or fs k d)) (made i (get_or fs k d)))
             (λ k j d less l.
-              let m : k < length fs = omega arith in
-              let f : get_or fs k d ≡ get_or fs k no_entry_at = get_or_default fs k d no_entry_at m in
-              let g : get_or fs j d ≡ get_or fs j no_entry_at = get_or_default fs j d no_entry_at l in
-              rw (f, g) (all-only_if (λ y. All (StandApart y) (kept_field kit inputs i (get_or fs j no_entry_at))) (is_kept_field kit inputs i (get_or fs k no_entry_at)) (made i (get_or fs k no_entry_at))
-                (λ a. all-only_if (StandApart (made i (get_or fs k no_entry_at))) (is_kept_field kit inputs i (get_or fs j no_entry_at)) (made i (get_or fs j no_entry_at)) (λ b. apart_in i k j h less l m a b))))
+            let m : k < length fs = omega arith in
+            let f : get_or fs k d ≡ get_or fs k no_entry_at = get_or_default fs k d no_entry_at m in
+            let g : get_or fs j d ≡ get_or fs j no_entry_at = get_or_default fs j d no_entry_at l in
+            rw (f, g) (all-only_if (λ y. All (StandApart y) (kept_field kit inputs i (get_or fs j no_entry_at))) (is_kept_field kit inputs i (get_or fs k no_entry_at)) (made i (get_or fs k no_entry_at))
+            (λ a. all-only_if (StandApart (made i (get_or fs k no_entry_at))) (is_kept_field kit inputs i (get_or fs j no_entry_at)) (made i (get_or fs j no_entry_at)) (λ b. apart_in i k j h less l m a b))))
 
-      between : (i j : ℕ) → i < j → All (λ y. All (StandApart y) (input_fields kit inputs j (input_at inputs j))) (input_fields kit inputs i (input_at inputs i))
-      between i j less =
-          each-all (λ y. All (StandApart y) (input_fields kit inputs j (input_at inputs j))) 0 (λ k f. kept_field kit inputs i f) (input_at inputs i).object.fields (λ k d l.
+        between : (i j : ℕ) → i < j → All (λ y. All (StandApart y) (input_fields kit inputs j (input_at inputs j))) (input_fields kit inputs i (input_at inputs i))
+        between i j less =
+            each-all (λ y. All (StandApart y) (input_fields kit inputs j (input_at inputs j))) 0 (λ k f. kept_field kit inputs i f) (input_at inputs i).object.fields (λ k d l.
             let f = get_or (input_at inputs i).object.fields k d in
             all-only_if (λ y. All (StandApart y) (input_fields kit inputs j (input_at inputs j))) (is_kept_field kit inputs i f) (made i f) (λ a.
-              each-all (StandApart (made i f)) 0 (λ k f. kept_field kit inputs j f) (input_at inputs j).object.fields (λ m e n.
-                let g = get_or (input_at inputs j).object.fields m e in
-                all-only_if (StandApart (made i f)) (is_kept_field kit inputs j g) (made j g) (λ b. apart_inputs i j f g less a b))))
+            each-all (StandApart (made i f)) 0 (λ k f. kept_field kit inputs j f) (input_at inputs j).object.fields (λ m e n.
+            let g = get_or (input_at inputs j).object.fields m e in
+            all-only_if (StandApart (made i f)) (is_kept_field kit inputs j g) (made j g) (λ b. apart_inputs i j f g less a b))))
 
     count_is : length (fields kit inputs) ≤ 2 ^ 23
     count_is =
         let many = length-each-le 0 (input_fields kit inputs) (λ x. length x.object.fields) inputs
-          (λ i x. omega (arith, length-each-le 0 (λ k f. kept_field kit inputs i f) (λ f. 1) x.object.fields (λ k f. only_if-le (is_kept_field kit inputs i f) (made i f)), ones x.object.fields)) in
+        (λ i x. omega (arith, length-each-le 0 (λ k f. kept_field kit inputs i f) (λ f. 1) x.object.fields (λ k f. only_if-le (is_kept_field kit inputs i f) (made i f)), ones x.object.fields)) in
         let limit = fit.fields in
         omega arith
       where
-      ones : (fs : List RawField) → sum_by (λ f. 1) fs ≡ length fs
-      ones [] = refl
-      ones (f ∷ fs) = omega (arith, sum_by-cons (λ f. 1) f fs, ones fs)
+        ones : (fs : List RawField) → sum_by (λ f. 1) fs ≡ length fs
+        ones [] = refl
+        ones (f ∷ fs) = omega (arith, sum_by-cons (λ f. 1) f fs, ones fs)
 
     entry_is : (e : Option (List ℕ)) → IfSome (option_and_then (definition kit inputs) e) (IsSimpleTarget (graph kit inputs))
     entry_is None = tt

@@ -1,26 +1,24 @@
 -- The graph of a simple kit is sound: pieces, fields and targets are what a linker can lay out and write.
-use Rattle.std.proofs.Common.{ℕ, zero, suc, ◌≡◌, ◌+◌, ◌^◌, ◌<◌, ◌≤◌, ◌∙◌, List, [], ◌∷◌, ◌++◌, length, get_or, take, drop, refl, ap, sym, arith, Bool, true, false, not, ◌&&◌, ◌||◌, cond, inl, inr, ◌⊎◌, append_assoc, length-append, subst, max}
-use Rattle.std.specs.Prelude.{Some, None, Option, ◌==◌, All, IsTrue, sum_by, map, bit_and}
-use Rattle.std.proofs.lemmas.Bool.{cases_Bool, cases_lt, eqb-true}
+use Rattle.std.proofs.Common.{ℕ, suc, ◌≡◌, ◌+◌, ◌^◌, ◌<◌, ◌≤◌, ◌∙◌, List, [], ◌∷◌, ◌++◌, length, get_or, take, drop, refl, ap, sym, arith, true, inl, inr, append_assoc, length-append, max}
+use Rattle.std.specs.Prelude.{◌==◌, All, bit_and}
+use Rattle.std.proofs.lemmas.Bool.{eqb-true}
 use Rattle.std.proofs.lemmas.List.{get_or-append-add, get_or_default, length-map, append-nil}
 use Rattle.std.proofs.lemmas.Nat.{pow_pos, and_assoc}
-use Rattle.std.proofs.Math.Nat.{max-eq_left, max-eq_right}
-use Rattle.kl_model.specs.Lists.{each, each_from, only_if}
+use Rattle.std.proofs.Math.Nat.{max-eq_left}
+use Rattle.kl_model.specs.Lists.{each, each_from}
 use Rattle.kl_model.specs.Texts.{has}
-use Rattle.kl_model.specs.Kept.{is_kept, input_at, no_input, no_section, section_at, class_of}
+use Rattle.kl_model.specs.Kept.{is_kept, input_at, no_input, no_section, class_of}
 use Rattle.kl_model.specs.Names.{piece_number}
 use Rattle.kl_model.specs.Graphs.{graph, section_piece, input_pieces, section_pieces, piece_of}
-use Rattle.kl_model.specs.Carries.{no_piece}
-use Rattle.kl_model.specs.Fit.{AreFit, IsFit, IsAlignment, IsFitAllocated}
-use Rattle.kl_model.specs.Simple.{is_simple, is_simple_section, IsSimplePiece, IsSimpleGraph, known_flags, IsSourced}
+use Rattle.kl_model.specs.Fit.{AreFit, IsAlignment, IsFitAllocated}
+use Rattle.kl_model.specs.Simple.{is_simple_section, IsSimplePiece, IsSimpleGraph, known_flags, IsSourced}
 use Rattle.kl_base.specs.declared.class.Class.TheVariants.{Text}
 use Rattle.kl_model.specs.declared.object.Section.{Section}
 use Rattle.kl_model.specs.declared.object.Input.{Input}
 use Rattle.kl_model.specs.declared.kit.Kit.{Kit}
 use Rattle.kl_model.specs.declared.graph.Piece.{Piece}
-use Rattle.kl_model.specs.declared.graph.PieceId.TheVariants as id
 use Rattle.kl_model.proofs.Each.{each-split, each-all, all-only_if, length-each-le}
-use Rattle.kl_sym.proofs.SimpleKits.{IsSimpleKit, IsCode, simple_kit, code_of, kept_simple, ordinary_code, pass_at, simple_sections, and_left}
+use Rattle.kl_sym.proofs.SimpleKits.{IsSimpleKit, IsCode, code_of, kept_simple, ordinary_code, pass_at, simple_sections, and_left}
 use Rattle.kl_sym.proofs.SimpleNames.{no_common_pieces}
 use Rattle.kl_sym.proofs.PieceNumbers.{number_is, only_if-le, sum_by-ones}
 
@@ -50,16 +48,16 @@ module _ (kit : Kit) (inputs : List Input) where
         let inner : input_pieces kit inputs i x ≡ second ++ (f (suc k) (get_or x.object.sections k no_section) ++ after) = rw one_k at (each-split 1 f x.object.sections k no_section l) in
         let here : f (suc k) (get_or x.object.sections k no_section) ≡ own ∷ [] = rw kept refl in
         outer ∙ (ap (λ l. first ++ (l ++ others)) (inner ∙ ap (λ l. second ++ (l ++ after)) here)
-          ∙ (ap (λ l. first ++ l) (append_assoc second (own ∷ after) others) ∙ sym (append_assoc first second (own ∷ (after ++ others)))))
+        ∙ (ap (λ l. first ++ l) (append_assoc second (own ∷ after) others) ∙ sym (append_assoc first second (own ∷ (after ++ others)))))
 
     pub piece_there : (d : Piece) → get_or (section_pieces kit inputs) (piece_number kit inputs i (suc k)) d ≡ own
     piece_there d =
         let first = each (take i inputs) (input_pieces kit inputs) in
         let second = each_from 1 (section_piece kit inputs i (input_at inputs i)) (take k (input_at inputs i).object.sections) in
         let long : length (first ++ second) + 0 ≡ piece_number kit inputs i (suc k) =
-          (let a = length-append first second in let n = number_is kit inputs i k h l kept in omega arith) in
+        (let a = length-append first second in let n = number_is kit inputs i k h l kept in omega arith) in
         ap (λ xs. get_or xs (piece_number kit inputs i (suc k)) d) split
-          ∙ (ap (λ n. get_or ((first ++ second) ++ own ∷ rest) n d) (sym long) ∙ get_or-append-add (first ++ second) (own ∷ rest) 0 d)
+        ∙ (ap (λ n. get_or ((first ++ second) ++ own ∷ rest) n d) (sym long) ∙ get_or-append-add (first ++ second) (own ∷ rest) 0 d)
 
     pub number-lt : piece_number kit inputs i (suc k) < length (section_pieces kit inputs)
     number-lt =
@@ -129,19 +127,19 @@ module _ (kit : Kit) (inputs : List Input) (fit : AreFit inputs) (simple : IsSim
       → All P (section_pieces kit inputs)
   all_pieces P holds =
       each-all P 0 (input_pieces kit inputs) inputs (λ i d h.
-        let x : get_or inputs i d ≡ input_at inputs i = get_or_default inputs i d no_input h in
-        let z : 0 + i ≡ i = omega arith in
-        rw (x, z) (each-all P 1 (section_piece kit inputs i (input_at inputs i)) (input_at inputs i).object.sections (λ k e l.
-          let y : get_or (input_at inputs i).object.sections k e ≡ get_or (input_at inputs i).object.sections k no_section = get_or_default (input_at inputs i).object.sections k e no_section l in
-          let s : 1 + k ≡ suc k = omega arith in
-          rw (y, s) (all-only_if P (is_kept kit inputs i (suc k)) _ (λ kept. holds i k h l kept)))))
+      let x : get_or inputs i d ≡ input_at inputs i = get_or_default inputs i d no_input h in
+      let z : 0 + i ≡ i = omega arith in
+      rw (x, z) (each-all P 1 (section_piece kit inputs i (input_at inputs i)) (input_at inputs i).object.sections (λ k e l.
+      let y : get_or (input_at inputs i).object.sections k e ≡ get_or (input_at inputs i).object.sections k no_section = get_or_default (input_at inputs i).object.sections k e no_section l in
+      let s : 1 + k ≡ suc k = omega arith in
+      rw (y, s) (all-only_if P (is_kept kit inputs i (suc k)) _ (λ kept. holds i k h l kept)))))
 
   pub simple_graph : IsSimpleGraph kit (graph kit inputs)
   unfolding graph
   simple_graph =
       let commons = no_common_pieces kit inputs simple in
       let many = length-each-le 0 (input_pieces kit inputs) (λ x. length x.object.sections) inputs
-        (λ i x. omega (arith, length-each-le 1 (section_piece kit inputs i x) (λ y. 1) x.object.sections (λ s y. only_if-le (is_kept kit inputs i s) (piece_of kit i x s y)), sum_by-ones x.object.sections)) in
+      (λ i x. omega (arith, length-each-le 1 (section_piece kit inputs i x) (λ y. 1) x.object.sections (λ s y. only_if-le (is_kept kit inputs i s) (piece_of kit i x s y)), sum_by-ones x.object.sections)) in
       let sections = fit.sections in
       let few : length (section_pieces kit inputs) < 2 ^ 23 = omega arith in
       let parts = length-map inputs (λ (x : Input). x.place) in

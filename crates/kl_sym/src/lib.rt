@@ -5,5 +5,7 @@ mod fields;
 mod graph;
 mod names;
 mod pieces;
+mod simple;
 
 pub use graph::resolve;
+pub use simple::is_simple;

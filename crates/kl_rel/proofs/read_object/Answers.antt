@@ -59,9 +59,9 @@ returns-clause-sound c =
 
 pub returns-clause-fit : goal.returns-clause-fit
 unfolding object
-returns-clause-fit c = λ x eb eo several.
+returns-clause-fit c = λ x eb eo.
     let b = c.args.bytes.now in
     let none = no_flaw b (has_table b c.in_ok-table.ensures.flaw) c.in_ok-check_ranges.ensures c.in_ok-sections.ensures.sound c.in_ok-symbol_table.ensures.flaw
     c.in_ok-symbols.ensures.sound c.in_ok-fields.ensures.sound c.in_ok-groups.ensures.sound in
     let same = rw (c.in_ok-sections.ensures.sections, c.in_ok-symbols.ensures.symbols, c.in_ok-fields.ensures.fields, c.in_ok-groups.ensures.groups) at eo in
-    object_is_fit b none x eb same (rw eo several)
+    object_is_fit b none x eb same

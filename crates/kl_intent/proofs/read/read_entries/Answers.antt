@@ -37,10 +37,10 @@ returns-then-is_last c =
 
 pub returns : goal.returns
 returns c = c.loop-line.invariant.rest ∙ elim c.match-split.branch [
-    in-Some+else-is_last+in_default-fresh_entry w ↦
-        let before = entries_of c.loop-line.intent in
-        wrong_entry (8 - length before) before c.loop-line.rest.now w.in-Some.line.now w.in-Some.more.now (omega arith) (sym w.in-Some.ensures)
-        (ap (λ (l : List Entry). is_last l w.in-Some.line.now) (sym w.entries.ensures) ∙ sym w.is_last.ensures ∙ w.if-is_last.false)
-        (ap (λ (l : List Entry). fresh_entry l w.in-Some.line.now) (sym w.entries-in-Some.ensures) ∙ sym w.in_default-fresh_entry.ensures)
+  | in-Some+else-is_last+in_default-fresh_entry w ↦
+      let before = entries_of c.loop-line.intent in
+      wrong_entry (8 - length before) before c.loop-line.rest.now w.in-Some.line.now w.in-Some.more.now (omega arith) (sym w.in-Some.ensures)
+      (ap (λ (l : List Entry). is_last l w.in-Some.line.now) (sym w.entries.ensures) ∙ sym w.is_last.ensures ∙ w.if-is_last.false)
+      (ap (λ (l : List Entry). fresh_entry l w.in-Some.line.now) (sym w.entries-in-Some.ensures) ∙ sym w.in_default-fresh_entry.ensures)
   | in_default w ↦ no_line (8 - length (entries_of c.loop-line.intent)) (entries_of c.loop-line.intent) c.loop-line.rest.now (sym w.in_default.ensures)
-  ] ∙ ap (λ (n : ℕ). Err (n + 3)) c.loop-line.invariant.size
+] ∙ ap (λ (n : ℕ). Err (n + 3)) c.loop-line.invariant.size

@@ -1,14 +1,13 @@
-use Rattle.std.proofs.Common.{◌≡◌, ◌+◌, ◌-◌, ◌%◌, ◌<◌, ◌≤◌, ◌^◌, ◌∙◌, ◌∷◌, [], ℕ, length, get_or, refl, ap, sym, arith, true, false}
+use Rattle.std.proofs.Common.{◌≡◌, ◌+◌, ◌%◌, ◌<◌, ◌^◌, ◌∙◌, length, get_or, refl, arith}
 use Rattle.std.proofs.lemmas.List.{get_or_default}
-use Rattle.kl_le.specs.Bytes.{ChangesWithin, num}
-use Rattle.kl_model.specs.Laid.{area_at, no_placed, page, unwrapped}
-use Rattle.kl_model.specs.Reaches.{less, width}
+use Rattle.kl_model.specs.Laid.{no_placed, page, unwrapped}
+use Rattle.kl_model.specs.Reaches.{less}
 use Rattle.kl_model.specs.Simple.{IsSimpleField}
 use Rattle.kl_model.specs.Faults.{field_address}
 use Rattle.kl_model.specs.declared.place.Placement.{Placement}
 use Rattle.kl_model.specs.declared.graph.Graph.{Graph}
 use Rattle.kl_model.specs.declared.graph.Field.{Field}
-use Rattle.kl_kernel.specs.TextImage.{StandInText, field_at, field_place, no_field, stands_at}
+use Rattle.kl_kernel.specs.TextImage.{StandInText, field_at, field_place, no_field}
 use Rattle.kl_kernel.proofs.Places.{less_offset, unwrapped-plus, zero_field, zero_placed}
 use Rattle.kl_kernel.proofs.FieldValues.{fit-is, target-value}
 use Rattle.kl_kernel.proofs.fields.write_field.Goals as goal

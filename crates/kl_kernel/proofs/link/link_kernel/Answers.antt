@@ -1,4 +1,4 @@
-use Rattle.std.proofs.Common.{◌≡◌, ◌∙◌, Some, ℕ, ◌≤◌, inl, inr, ap, sym, arith}
+use Rattle.std.proofs.Common.{◌∙◌, inl, inr, ap, arith}
 use Rattle.std.proofs.lemmas.Result.{err_from_is_err_and}
 use Rattle.kl_kernel.proofs.LinkFaults.{first_of_names}
 use Rattle.kl_kernel.proofs.LinkSteps.{graph_order, graph_simple, graph_writable, span_fault, stands, only, range_is, none_stands, carries_kit}
@@ -9,8 +9,8 @@ pub returns-in_err-graph-clause-err : goal.returns-in_err-graph-clause-err
 returns-in_err-graph-clause-err c =
     let r = err_from_is_err_and c.from_residual.result c.from_residual.ensures.1 in
     rw (r.1, r.2) (elim c.in_err-graph.ensures.err [
-      inl a ↦ inl a
-    | inr e ↦ inr (first_of_names c.args.kit.now c.args.inputs.now c.args.order.now _ e)
+      | inl a ↦ inl a
+      | inr e ↦ inr (first_of_names c.args.kit.now c.args.inputs.now c.args.order.now _ e)
     ])
 
 pub place-requires-clause-simple : goal.place-requires-clause-simple
@@ -26,9 +26,9 @@ returns-in_err-placement-clause-err c =
     let q = c.requires in
     let r = err_from_is_err_and c.from_residual-in_err-placement.result c.from_residual-in_err-placement.ensures.1 in
     rw (r.1, r.2) (elim c.in_err-placement.ensures.err [
-      inl a ↦ inl (ap as_link_fault a)
-    | inr e ↦ inr (span_fault c.args.kit.now c.args.inputs.now c.args.order.now q.kit q.inputs q.simple q.order c.in_ok-graph.graph c.in_ok-graph.ensures.ok
-        c.in_ok-graph.ensures.sound _ e)
+      | inl a ↦ inl (ap as_link_fault a)
+      | inr e ↦ inr (span_fault c.args.kit.now c.args.inputs.now c.args.order.now q.kit q.inputs q.simple q.order c.in_ok-graph.graph c.in_ok-graph.ensures.ok
+          c.in_ok-graph.ensures.sound _ e)
     ])
 
 pub text_image-requires-clause-stands : goal.text_image-requires-clause-stands
@@ -53,9 +53,9 @@ returns-in_err-image-clause-err c =
     let q = c.requires in let p = c.in_ok-placement.ensures in
     let r = err_from_is_err_and c.from_residual-in_err-image.result c.from_residual-in_err-image.ensures.1 in
     rw (r.1, r.2) (elim c.in_err-image.ensures.err [
-      inl a ↦ inl a
-    | inr e ↦ inr (range_is c.args.kit.now c.args.inputs.now c.args.order.now q.kit q.inputs q.simple q.order c.in_ok-graph.graph c.in_ok-graph.ensures.ok
-        c.in_ok-graph.ensures.sound c.in_ok-placement.placement p.laid p.names p.placed p.small ∙ e)
+      | inl a ↦ inl a
+      | inr e ↦ inr (range_is c.args.kit.now c.args.inputs.now c.args.order.now q.kit q.inputs q.simple q.order c.in_ok-graph.graph c.in_ok-graph.ensures.ok
+          c.in_ok-graph.ensures.sound c.in_ok-placement.placement p.laid p.names p.placed p.small ∙ e)
     ])
 
 pub overflow_cast-fields : goal.overflow_cast-fields

@@ -21,7 +21,7 @@ returns-then-not-is_free-clause-flaw c =
     let member = rw c.requires.header at c.get-member.ensures.number in
     let refused = member_refused b c.loop-word.grouped (members_before b n j) n ((section b n).offset + 4 * j) c.get-member.result c.loop-word.invariant.grouped (sym c.is_free.ensures ∙ c.if-not-is_free.true) in
     let flaw = rw member at refused in
-    rw (c.into.ensures, c.group_fault.ensures, c.requires.header)
+    rw (c.into.ensures, c.fault_at.ensures, c.requires.header)
     (first_stops (member_flaw_of b n) j (c.args.header.now.size / 4) _ flaw (omega arith) c.loop-word.invariant.flaw)
 
 pub loop-word-preserved : goal.loop-word-preserved

@@ -1,4 +1,4 @@
-use Rattle.std.proofs.Common.{ℕ, ◌≡◌, ◌+◌, ◌-◌, ◌*◌, ◌/◌, ◌<◌, ◌≤◌, ◌∙◌, length, sym, arith}
+use Rattle.std.proofs.Common.{◌+◌, ◌*◌, ◌/◌, ◌≤◌, ◌∙◌, length, sym, arith}
 use Rattle.kl_rel.proofs.TextLens.{len_found, len_passed, zeros_bound, part_bound}
 use Rattle.kl_rel.proofs.string.text_len.Goals as goal
 

@@ -1,4 +1,3 @@
-use Rattle.std.proofs.Common.{◌≡◌, sym}
 use Rattle.kl_rel.proofs.TextLens.{or_len}
 use Rattle.kl_rel.proofs.string.zero_or_len.Goals as goal
 

@@ -1,4 +1,4 @@
-use Rattle.std.proofs.Common.{ℕ, ◌≡◌, ◌+◌, ◌-◌, ◌<◌, ◌≤◌, ◌∙◌, length, sym, arith}
+use Rattle.std.proofs.Common.{sym, arith}
 use Rattle.kl_rel.proofs.TextLens.{string_past, string_none, string_some, len_bound}
 use Rattle.kl_rel.proofs.string.StringTable.string.Goals as goal
 

@@ -1,0 +1,7 @@
+// What is known of all images of a kit.
+ghost use Rattle.kl_kernel.specs.OneTarget.{OneTarget};
+
+/// All images of a kit, under any orders and gaps, lead each field to the same offset of the same piece.
+pub fn one_target()
+    ensures { OneTarget }
+{}

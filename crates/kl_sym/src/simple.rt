@@ -1,0 +1,192 @@
+// Which kits are linked so far.
+ghost use Rattle.std.specs.Prelude.{◌≡◌, ◌==◌, ◌&&◌, ◌∷◌, [], bit_and, is_none, not};
+ghost use Rattle.std.specs.List.{list_all, list_any};
+ghost use Rattle.kl_model.specs.Fit.{section_in};
+ghost use Rattle.kl_model.specs.Faults.{is_kind};
+ghost use Rattle.kl_model.specs.Kept.{named_area};
+ghost use Rattle.kl_model.specs.Line.{classes};
+ghost use Rattle.kl_model.specs.Simple.{is_empty, is_kernel, is_simple, is_simple_field, is_simple_input, is_simple_section, is_simple_symbol, known_flags};
+ghost use Rattle.kl_base.specs.declared.class.Class.TheVariants.{Text, Rodata, Rwdata};
+ghost use Rattle.kl_model.specs.Texts.{has, text_at};
+
+use kl_base::Range;
+use kl_model::{Group, Input, Kit, KitKind, Object, RawField, Section, Symbol};
+
+const SHT_PROGBITS: u32 = 1;
+
+const SHF_ALLOC: u64 = 2;
+
+const SHF_ALLOC_EXECINSTR: u64 = 6;
+
+/// The flags of a section that have a meaning here: SHF_WRITE, SHF_ALLOC, SHF_EXECINSTR, SHF_MERGE, SHF_STRINGS,
+/// SHF_INFO_LINK, SHF_GROUP, SHF_TLS, SHF_COMPRESSED and SHF_EXCLUDE (gABI).
+const KNOWN_FLAGS: u64 = 0x8000_0e77;
+
+const STB_LOCAL: u8 = 0;
+
+const STB_GLOBAL: u8 = 1;
+
+const STV_DEFAULT: u8 = 0;
+
+const SHN_COMMON: u32 = 0xfff2;
+
+/// The bytes of a range, as far as the file has them.
+fn text_at(bytes: &[u8], range: Range) -> &[u8]
+    ensures { result.now ≡ text_at bytes.now range }
+{
+    let start = bytes.len().min(range.at as usize);
+    let rest = &bytes[start..];
+    &rest[..rest.len().min(range.len as usize)]
+}
+
+fn names_no_text_area(name: &[u8]) -> bool
+    ensures { result ≡ is_none (named_area Text name.now) }
+{
+    name != b".init".as_slice() && name != b".fini".as_slice()
+}
+
+fn names_no_rodata_area(name: &[u8]) -> bool
+    ensures { result ≡ is_none (named_area Rodata name.now) }
+{
+    name != b".eh_frame".as_slice()
+}
+
+fn names_no_rwdata_area(name: &[u8]) -> bool
+    ensures { result ≡ is_none (named_area Rwdata name.now) }
+{
+    !(name == b".ctors".as_slice()
+        || name == b".dtors".as_slice()
+        || name == b".init_array".as_slice()
+        || name == b".fini_array".as_slice())
+}
+
+/// Whether a name gives a section no area of its own.
+fn names_no_area(name: &[u8]) -> bool
+    ensures { result ≡ list_all (λ c. is_none (named_area c name.now)) classes }
+{
+    names_no_text_area(name) && names_no_rodata_area(name) && names_no_rwdata_area(name)
+}
+
+fn is_allocated(section: &Section) -> bool
+    ensures { result ≡ has section.now.flags 2 }
+{
+    section.flags & SHF_ALLOC != 0
+}
+
+fn is_simple_section(bytes: &[u8], section: &Section) -> bool
+    ensures { result ≡ is_simple_section bytes.now section.now }
+{
+    !is_allocated(section)
+        || section.kind == SHT_PROGBITS
+            && section.flags & KNOWN_FLAGS == SHF_ALLOC_EXECINSTR
+            && names_no_area(text_at(bytes, section.name))
+}
+
+fn is_simple_symbol(symbol: &Symbol) -> bool
+    ensures { result ≡ is_simple_symbol symbol.now }
+{
+    symbol.binding == STB_LOCAL
+        || symbol.binding == STB_GLOBAL
+            && symbol.visibility == STV_DEFAULT
+            && symbol.section != SHN_COMMON
+}
+
+/// Whether section `number` of an object is allocated; number 0 isn't.
+fn is_allocated_in(object: &Object, number: u32) -> bool
+    ensures { result ≡ has (section_in object.now number).flags 2 }
+{
+    match number.checked_sub(1) {
+        Some(place) => match object.sections.items().get(place as usize) {
+            Some(section) => is_allocated(section),
+            None => false,
+        },
+        None => false,
+    }
+}
+
+/// Whether a relocation type is one that is linked (psABI).
+fn is_kind(kind: u32) -> bool
+    ensures { result ≡ is_kind kind }
+{
+    kind < 3 || kind == 4 || kind > 8 && kind < 16 || kind == 24 || kind == 41 || kind == 42
+}
+
+fn is_simple_kind(kind: u32) -> bool
+    ensures { result ≡ list_any (λ k. kind == k) (0 ∷ 1 ∷ 2 ∷ 4 ∷ []) }
+{
+    kind < 3 || kind == 4
+}
+
+fn is_simple_field(object: &Object, field: &RawField) -> bool
+    ensures { result ≡ is_simple_field object.now field.now }
+{
+    !is_allocated_in(object, field.section) || is_simple_kind(field.kind) || !is_kind(field.kind)
+}
+
+fn is_no_comdat(group: &Group) -> bool
+    ensures { result ≡ not group.now.comdat }
+{
+    !group.comdat
+}
+
+fn are_simple_sections(bytes: &[u8], sections: &[Section]) -> bool
+    ensures { result ≡ list_all (is_simple_section bytes.now) sections.now }
+{
+    sections
+        .iter()
+        .all(|section| is_simple_section(bytes, section))
+}
+
+fn are_simple_symbols(symbols: &[Symbol]) -> bool
+    ensures { result ≡ list_all is_simple_symbol symbols.now }
+{
+    symbols.iter().all(|symbol| is_simple_symbol(symbol))
+}
+
+fn are_simple_fields(object: &Object) -> bool
+    ensures { result ≡ list_all (is_simple_field object.now) object.now.fields }
+{
+    object
+        .fields
+        .items()
+        .iter()
+        .all(|field| is_simple_field(object, field))
+}
+
+fn are_no_comdats(groups: &[Group]) -> bool
+    ensures { result ≡ list_all (λ g. not g.comdat) groups.now }
+{
+    groups.iter().all(|group| is_no_comdat(group))
+}
+
+fn is_simple_input(input: &Input) -> bool
+    ensures { result ≡ is_simple_input input.now }
+{
+    let object = &input.object;
+    are_simple_sections(input.bytes.items(), object.sections.items())
+        && are_simple_symbols(object.symbols.items())
+        && are_simple_fields(object)
+        && are_no_comdats(object.groups.items())
+}
+
+fn are_simple_inputs(inputs: &[Input]) -> bool
+    ensures { result ≡ list_all is_simple_input inputs.now }
+{
+    inputs.iter().all(|input| is_simple_input(input))
+}
+
+fn has_no_lines(kit: &Kit) -> bool
+    ensures { result ≡ (is_empty kit.now.runs && (is_empty kit.now.edges && is_empty kit.now.drops)) }
+{
+    kit.runs.items().is_empty() && kit.edges.items().is_empty() && kit.drops.items().is_empty()
+}
+
+/// Whether a kit is simple: a kernel's kit without `run`, `edge` and `drop` lines, whose inputs have no allocated sections but
+/// text that is in no area, no symbols but LOCAL ones and GLOBAL ones of DEFAULT visibility that are no commons, no COMDAT
+/// groups, and in text no fields but those of the types NONE, 64, PC32 and PLT32, and of types that aren't linked.
+#[tactic(auto, unfolding(kl_model::specs::Simple::is_simple))]
+pub fn is_simple(kit: &Kit, inputs: &[Input]) -> bool
+    ensures { result ≡ is_simple kit.now inputs.now }
+{
+    kit.kind == KitKind::Kernel && has_no_lines(kit) && are_simple_inputs(inputs)
+}

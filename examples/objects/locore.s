@@ -1,0 +1,7 @@
+# The head of a kernel: its entry.
+
+        .text
+        .p2align 4
+        .globl start
+start:
+        ret
