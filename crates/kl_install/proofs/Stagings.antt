@@ -13,7 +13,7 @@ use Rattle.kl_store.specs.Meaning.{Meaning}
 use Rattle.kl_store.specs.Images.{LeavesOfDisk, Nothing}
 use Rattle.kl_store.specs.Calls.{Stays}
 use Rattle.std.specs.Option.{ForSome}
-use Rattle.kl_store.proofs.Moments.{leaves_on, leaves_still, weaker, same_disk, told_names}
+use Rattle.kl_store.proofs.Moments.{leaves_on, leaves_still, weaker, same_disk, told_names, told_disk}
 use Rattle.kl_store.proofs.Disks.{now_is_image}
 use Rattle.kl_intent.specs.declared.intent.Entry.{Entry}
 use Rattle.kl_intent.specs.IntentText.{slot_name, IsEntry, is_new, AreDistinct}
@@ -115,3 +115,7 @@ stages {x = x} {y = y} b target bytes all e each is fresh free so_far noted targ
     told_start : (o p : Option Disk) (n : Disk) → is_some p ≡ is_some o → p ≡ Some n → (d : Disk) × (o ≡ Some d)
     told_start None p n tells now = let no : true ≡ false = sym (ap is_some now) ∙ tells in cc
     told_start (Some d) p n tells now = (d, refl)
+
+-- a batch that is staged has a free slot
+pub still_free : (y : Meaning) (b : Batch) → ForSome y.disk (IsStaged b) → ForSome y.names (λ m. get m (slot_name b.slot) ≡ None)
+still_free y b staged m told = let d = told_disk y m told in ap (λ (k : Names). get k (slot_name b.slot)) (sym d.2) ∙ (staged d.0 d.1).free

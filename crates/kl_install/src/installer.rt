@@ -75,6 +75,12 @@ impl Installer {
         ensures ready { OnOk result (IsReady self.new) }
         ensures not_ready { OnErr result (is_ready self.new ≡ false) }
         ensures staged { OnOk result (Stages (batch_of self.old) target.now bytes.now (staged self.new) (S.meaning store.old) (S.meaning store.new)) }
+
+        // So the next file may be staged, or the batch be committed.
+        ensures free { OnOk result (Holds (S.meaning store.new) (slot_name (slot_of self.new)) (λ file. file ≡ None)) }
+        ensures goes_on { OnOk result (ForSome (S.meaning store.new).disk (IsStaged (batch_of self.new))) }
+
+        // Whatever the answer, no file has changed, and a crash leaves no file changed.
         ensures images { LeavesOfDisk (S.meaning store.old) (S.meaning store.new) HasFiles }
         ensures files { SameFiles (S.meaning store.old) (S.meaning store.new) }
         ensures cause { HasCause (S.faults store.old) (S.faults store.new) result }

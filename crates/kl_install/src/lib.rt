@@ -9,3 +9,6 @@ mod stage;
 
 pub use installer::Installer;
 pub use recover::{SlotEnd, Unsound};
+
+#[cfg(test)]
+mod tests;
