@@ -1,0 +1,9 @@
+pub mod Named
+pub mod Recovered
+pub mod Steps
+pub mod Moves
+pub mod Whole
+pub mod Again
+pub mod TempNames
+pub mod Stagings
+pub mod Redone

@@ -1,0 +1,19 @@
+use Rattle.kl_store.specs.Names.{Create}
+use Rattle.kl_store.specs.Disk.{joined}
+use Rattle.kl_store.proofs.Moments.{weaker, leaves_on, told_joined}
+use Rattle.kl_store.proofs.Disks.{near_created, near_written}
+use Rattle.kl_store.proofs.SameFilesLemmas.{does_files, same_files_trans}
+use Rattle.kl_install.proofs.install.write_file.Goals as goal
+
+pub returns-in_err-create-clause-images : goal.returns-in_err-create-clause-images
+returns-in_err-create-clause-images g c = weaker c.create.ensures.does.images (λ d told x may. near_created d c.args.name.now x may.image)
+
+pub returns-clause-images : goal.returns-clause-images
+returns-clause-images g c = leaves_on (weaker c.create.ensures.does.images (λ d told x may. near_created d c.args.name.now x may.image)) c.append.ensures.does.images
+    (λ d told. (joined (Create c.args.name.now) d, told_joined d c.in_ok-create.ensures.does.made told, λ x may. near_written d c.args.name.now c.args.bytes.now x may.image))
+
+pub returns-in_err-create-clause-files : goal.returns-in_err-create-clause-files
+returns-in_err-create-clause-files g c = λ scratch. does_files scratch c.create.ensures.does
+
+pub returns-clause-files : goal.returns-clause-files
+returns-clause-files g c = λ scratch. same_files_trans (does_files scratch c.create.ensures.does) (does_files scratch c.append.ensures.does)

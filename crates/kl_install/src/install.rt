@@ -1,0 +1,155 @@
+// The batch's files take their places.
+ghost use Rattle.std.specs.Prelude.{◌≡◌, ◌≢◌, ◌≤◌, ◌+◌, ◌++◌, length, take, true};
+ghost use Rattle.std.specs.List.{AllByRecursion};
+ghost use Rattle.std.specs.Option.{ForSome};
+ghost use Rattle.std.specs.FinMap.{remove};
+ghost use Rattle.kl_store.specs.Disk.{with_file, without, IsNear};
+ghost use Rattle.kl_store.specs.Images.{Leaves, LeavesOfDisk, Becomes, Ends};
+ghost use Rattle.kl_store.specs.Calls.{DoesIf, HasCause};
+ghost use Rattle.kl_store.specs.Names.{Rename, is_scratch};
+ghost use Rattle.kl_store.specs.Files.{SameFiles};
+ghost use Rattle.kl_intent.specs.IntentText.{AreEntries, IsEntry, entries_of, intent_text, slot_name};
+ghost use Rattle.kl_install.specs.After.{temp_name, temp_of};
+ghost use Rattle.kl_install.specs.Batch.{batch, AreApart, IsStaged};
+ghost use Rattle.kl_install.specs.Committed.{Commits};
+ghost use Rattle.kl_install.specs.Moving.{IsMoving, AreMoved, HasIntent, MayIntend, CanMove, CanRemove};
+
+use kl_base::{Name, Slot};
+use kl_intent::{Entry, Intent, entries, print_intent, slot_name};
+use kl_store::{Failed, Store};
+
+// Puts each staged file in its target's place.
+pub fn install<S: Store>(store: &mut S, intent: &Intent) -> Result<(), Failed>
+    requires few { intent.now.count ≤ 8 }
+    requires entries { AreEntries (entries_of intent.now) }
+    requires staged { ForSome (S.meaning store.old).disk (IsStaged (batch intent.now.slot (entries_of intent.now))) }
+    ensures commits { Commits (batch intent.now.slot (entries_of intent.now)) (S.meaning store.old) (S.meaning store.new) result }
+    ensures cause { HasCause (S.faults store.old) (S.faults store.new) result }
+{
+    intend(store, intent)?;
+    move_batch(store, intent)?;
+    forget(store, intent.slot)
+}
+
+// The slot has the intent of the batch, on the disk.
+fn intend<S: Store>(store: &mut S, intent: &Intent) -> Result<(), Failed>
+    requires few { intent.now.count ≤ 8 }
+    requires entries { AreEntries (entries_of intent.now) }
+    ensures done { Ends (S.meaning store.old) (S.meaning store.new) result (HasIntent (slot_name intent.now.slot) (temp_name (slot_name intent.now.slot)) (intent_text intent.now.slot (entries_of intent.now))) }
+    ensures images { LeavesOfDisk (S.meaning store.old) (S.meaning store.new) (MayIntend (slot_name intent.now.slot) (temp_name (slot_name intent.now.slot)) (intent_text intent.now.slot (entries_of intent.now))) }
+    ensures cause { HasCause (S.faults store.old) (S.faults store.new) result }
+{
+    let slot = slot_name(intent.slot);
+    let mut text = [0; 4096];
+    let count = print_intent(intent, &mut text);
+    write_intent(store, &slot, &temp_name(&slot), &text[..count])
+}
+
+// Each file of the batch has its place, on the disk.
+fn move_batch<S: Store>(store: &mut S, intent: &Intent) -> Result<(), Failed>
+    requires few { intent.now.count ≤ 8 }
+    requires each { AllByRecursion IsEntry (entries_of intent.now) }
+    requires apart { AreApart (entries_of intent.now) }
+    requires wait { ForSome (S.meaning store.old).disk (CanMove (entries_of intent.now)) }
+    ensures done { Ends (S.meaning store.old) (S.meaning store.new) result (AreMoved (entries_of intent.now)) }
+    ensures images { Leaves (S.meaning store.old) (S.meaning store.new) (IsMoving (entries_of intent.now)) }
+    ensures cause { HasCause (S.faults store.old) (S.faults store.new) result }
+{
+    move_all(store, entries(intent))
+}
+
+// The slot is free, on the disk.
+pub fn forget<S: Store>(store: &mut S, slot: Slot) -> Result<(), Failed>
+    requires { ForSome (S.meaning store.old).disk (CanRemove (slot_name slot)) }
+    ensures done { Becomes (S.meaning store.old) (S.meaning store.new) result (without (slot_name slot)) }
+    ensures images { Leaves (S.meaning store.old) (S.meaning store.new) (λ m x. x ≡ remove m (slot_name slot)) }
+    ensures cause { HasCause (S.faults store.old) (S.faults store.new) result }
+{
+    remove_stable(store, &slot_name(slot))
+}
+
+// The name under which a file waits to take the place of the one of this name.
+pub fn temp_name(name: &Name) -> Name
+    requires { length name.now ≤ 248 }
+    ensures { result ≡ temp_name name.now }
+{
+    let mut bytes = [0; 255];
+    let at = put(&mut bytes, 0, name.bytes());
+    let end = put(&mut bytes, at, b".relink");
+    Name::from_bytes(&bytes[..end]).unwrap()
+}
+
+// Puts the bytes from that place on, and gives the place behind them.
+fn put(out: &mut [u8; 255], at: usize, bytes: &[u8]) -> usize
+    requires { at + length bytes.now ≤ 255 }
+    ensures end { result ≡ at + length bytes.now }
+    ensures text { take result out.new ≡ take at out.old ++ bytes.now }
+{
+    let end = at + bytes.len();
+    out[at..end].copy_from_slice(bytes);
+    end
+}
+
+// The slot has the intent, on the disk.
+fn write_intent<S: Store>(
+    store: &mut S,
+    slot: &Name,
+    temp: &Name,
+    text: &[u8],
+) -> Result<(), Failed>
+    requires { slot.now ≢ temp.now }
+    ensures done { Ends (S.meaning store.old) (S.meaning store.new) result (HasIntent slot.now temp.now text.now) }
+    ensures images { LeavesOfDisk (S.meaning store.old) (S.meaning store.new) (MayIntend slot.now temp.now text.now) }
+    ensures cause { HasCause (S.faults store.old) (S.faults store.new) result }
+{
+    write_file(store, temp, text)?;
+    store.settle()?;
+    store.rename(temp, slot)?;
+    store.settle()
+}
+
+// A new file with these bytes, not yet on the disk.
+pub fn write_file<S: Store>(store: &mut S, name: &Name, bytes: &[u8]) -> Result<(), Failed>
+    ensures done { Becomes (S.meaning store.old) (S.meaning store.new) result (with_file name.now bytes.now) }
+    ensures images { LeavesOfDisk (S.meaning store.old) (S.meaning store.new) (IsNear name.now) }
+    ensures files { is_scratch name.now ≡ true → SameFiles (S.meaning store.old) (S.meaning store.new) }
+    ensures cause { HasCause (S.faults store.old) (S.faults store.new) result }
+{
+    store.create(name)?;
+    store.append(name, bytes)
+}
+
+// Each file has its place, on the disk.
+fn move_all<S: Store>(store: &mut S, entries: &[Entry]) -> Result<(), Failed>
+    requires each { AllByRecursion IsEntry entries.now }
+    requires apart { AreApart entries.now }
+    requires wait { ForSome (S.meaning store.old).disk (CanMove entries.now) }
+    ensures done { Ends (S.meaning store.old) (S.meaning store.new) result (AreMoved entries.now) }
+    ensures images { Leaves (S.meaning store.old) (S.meaning store.new) (IsMoving entries.now) }
+    ensures cause { HasCause (S.faults store.old) (S.faults store.new) result }
+{
+    for entry in entries {
+        take_place(store, entry)?;
+    }
+    store.settle()
+}
+
+// The entry's file takes its place, if it waits.
+pub fn take_place<S: Store>(store: &mut S, entry: &Entry) -> Result<bool, Failed>
+    requires { IsEntry entry.now }
+    ensures does { DoesIf (Rename (temp_of entry.now) entry.now.target) (S.meaning store.old) (S.meaning store.new) result }
+    ensures cause { HasCause (S.faults store.old) (S.faults store.new) result }
+{
+    store.rename(&temp_name(&entry.target), &entry.target)
+}
+
+// The name is gone, on the disk.
+fn remove_stable<S: Store>(store: &mut S, name: &Name) -> Result<(), Failed>
+    requires { ForSome (S.meaning store.old).disk (CanRemove name.now) }
+    ensures done { Becomes (S.meaning store.old) (S.meaning store.new) result (without name.now) }
+    ensures images { Leaves (S.meaning store.old) (S.meaning store.new) (λ m x. x ≡ remove m name.now) }
+    ensures cause { HasCause (S.faults store.old) (S.faults store.new) result }
+{
+    store.remove(name)?;
+    store.settle()
+}

@@ -1,0 +1,11 @@
+//! Batches of files that are replaced as a whole, whatever moment the machine stops at.
+#![tactic(auto)]
+
+mod install;
+mod installer;
+mod recover;
+mod sound;
+mod stage;
+
+pub use installer::Installer;
+pub use recover::{SlotEnd, Unsound};
