@@ -14,6 +14,19 @@ abcdef0000000000000000000000000000000000000000000000000000000001\n";
 
 const END: &[u8] = b"end\n";
 
+// Lines of entries with a scratch name, digits of upper case, two spaces, and the name of a slot.
+const SCRATCH: &[u8] =
+    b"entry /bsd.relink - abcdef0000000000000000000000000000000000000000000000000000000000\n";
+
+const UPPER: &[u8] =
+    b"entry /bsd - ABCDEF0000000000000000000000000000000000000000000000000000000000\n";
+
+const SPACES: &[u8] =
+    b"entry  /bsd - abcdef0000000000000000000000000000000000000000000000000000000000\n";
+
+const SLOT: &[u8] =
+    b"entry /var/db/relink.libs.intent - abcdef0000000000000000000000000000000000000000000000000000000000\n";
+
 /// The lines as one text.
 fn text(alloc: Global, lines: &[&[u8]]) -> Result<Vec<u8>, Fail> {
     let mut text = Vec::new(alloc);
@@ -41,39 +54,38 @@ fn reads_and_prints(rt: HostRuntime) -> Result<(), Fail> {
     Ok(())
 }
 
+/// The first line of a text of these lines that is outside the grammar.
+fn wrong_line(alloc: Global, lines: &[&[u8]]) -> Result<Option<u32>, Fail> {
+    let text = text(alloc, lines)?;
+    match read_intent(&text) {
+        Ok(_) => Ok(None),
+        Err(fault) => Ok(Some(fault.line)),
+    }
+}
+
 #[test]
 fn tells_the_first_wrong_line(rt: HostRuntime) -> Result<(), Fail> {
-    let scratch =
-        b"entry /bsd.relink - abcdef0000000000000000000000000000000000000000000000000000000000\n";
-    let upper = b"entry /bsd - ABCDEF0000000000000000000000000000000000000000000000000000000000\n";
-    let spaces =
-        b"entry  /bsd - abcdef0000000000000000000000000000000000000000000000000000000000\n";
-    let slot =
-        b"entry /var/db/relink.libs.intent - abcdef0000000000000000000000000000000000000000000000000000000000\n";
-    let cases: [(&[&[u8]], u32); 13] = [
-        (&[], 1),
-        (&[b"relink intent 2\n", KERNEL, END], 1),
-        (&[b"relink intent 1\n", KERNEL, END], 2),
-        (&[HEAD, END], 3),
-        (&[HEAD, scratch, END], 3),
-        (&[HEAD, upper, END], 3),
-        (&[HEAD, spaces, END], 3),
-        (&[HEAD, slot, END], 3),
-        (&[HEAD, KERNEL, KERNEL, END], 4),
-        (&[HEAD, KERNEL], 4),
-        (&[HEAD, KERNEL, b"end"], 4),
-        (&[HEAD, KERNEL, END, b"x"], 5),
-        (&[HEAD, KERNEL, END, MAP], 5),
-    ];
-    for (lines, line) in cases {
-        let text = text(rt.alloc(), lines)?;
-        assert_eq!(rt;
-            read_intent(&text).err(),
-            Some(IntentFault { line }),
-            "at {lines:?}"
-        );
-    }
-    let long = vec![in rt.alloc(); b'\n'; 4097]?;
-    assert_eq!(rt; read_intent(&long).err(), Some(IntentFault { line: 0 }));
+    let alloc = rt.alloc();
+    let long = vec![in alloc; b'\n'; 4097]?;
+    assert_eq!(rt; wrong_line(alloc, &[&long])?, Some(0));
+    assert_eq!(rt; wrong_line(alloc, &[])?, Some(1));
+    assert_eq!(rt;
+        wrong_line(alloc, &[b"relink intent 2\n", KERNEL, END])?,
+        Some(1)
+    );
+    assert_eq!(rt;
+        wrong_line(alloc, &[b"relink intent 1\n", KERNEL, END])?,
+        Some(2)
+    );
+    assert_eq!(rt; wrong_line(alloc, &[HEAD, END])?, Some(3));
+    assert_eq!(rt; wrong_line(alloc, &[HEAD, SCRATCH, END])?, Some(3));
+    assert_eq!(rt; wrong_line(alloc, &[HEAD, UPPER, END])?, Some(3));
+    assert_eq!(rt; wrong_line(alloc, &[HEAD, SPACES, END])?, Some(3));
+    assert_eq!(rt; wrong_line(alloc, &[HEAD, SLOT, END])?, Some(3));
+    assert_eq!(rt; wrong_line(alloc, &[HEAD, KERNEL, KERNEL, END])?, Some(4));
+    assert_eq!(rt; wrong_line(alloc, &[HEAD, KERNEL])?, Some(4));
+    assert_eq!(rt; wrong_line(alloc, &[HEAD, KERNEL, b"end"])?, Some(4));
+    assert_eq!(rt; wrong_line(alloc, &[HEAD, KERNEL, END, b"x"])?, Some(5));
+    assert_eq!(rt; wrong_line(alloc, &[HEAD, KERNEL, END, MAP])?, Some(5));
     Ok(())
 }

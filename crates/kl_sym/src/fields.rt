@@ -2,7 +2,7 @@
 ghost use Rattle.std.specs.Prelude.{◌≡◌, ◌⊎◌, ◌+◌, ◌<◌, ◌≤◌, ◌++◌, ◌∷◌, [], Ok, Some, length, slice_get, option_to_list, IfErr, IfOk, OnOk, IsTrue};
 ghost use Rattle.kl_model.specs.Texts.{text_at};
 ghost use Rattle.kl_model.specs.Kept.{input_at};
-ghost use Rattle.kl_model.specs.Faults.{all_field_faults, input_faults, is_kind as is_linked_kind};
+ghost use Rattle.kl_model.specs.Faults.{all_field_faults, input_faults, is_kind};
 ghost use Rattle.kl_model.specs.Fit.{AreFit, IsFit, IsFitField, section_in};
 ghost use Rattle.kl_model.specs.Graphs.{input_fields};
 ghost use Rattle.kl_model.specs.Graphs.{fields as fields_of};
@@ -23,8 +23,8 @@ const STB_WEAK: u8 = 2;
 const R_X86_64_NONE: u32 = 0;
 
 /// Whether a relocation type is one that is linked (psABI, "Relocation Types").
-fn is_linked(kind: u32) -> bool
-    ensures { result ≡ is_linked_kind kind }
+pub fn is_linked(kind: u32) -> bool
+    ensures { result ≡ is_kind kind }
 {
     kind <= 2 || kind == 4 || (9 <= kind && kind <= 15) || kind == 24 || kind == 41 || kind == 42
 }

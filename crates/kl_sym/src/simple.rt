@@ -2,13 +2,13 @@
 ghost use Rattle.std.specs.Prelude.{◌≡◌, ◌==◌, ◌&&◌, ◌∷◌, [], bit_and, is_none, not};
 ghost use Rattle.std.specs.List.{list_all, list_any};
 ghost use Rattle.kl_model.specs.Fit.{section_in};
-ghost use Rattle.kl_model.specs.Faults.{is_kind};
 ghost use Rattle.kl_model.specs.Kept.{named_area};
 ghost use Rattle.kl_model.specs.Line.{classes};
 ghost use Rattle.kl_model.specs.Simple.{is_empty, is_kernel, is_simple, is_simple_field, is_simple_input, is_simple_section, is_simple_symbol, known_flags};
 ghost use Rattle.kl_base.specs.declared.class.Class.TheVariants.{Text, Rodata, Rwdata};
 ghost use Rattle.kl_model.specs.Texts.{has, text_at};
 
+use crate::fields::is_linked;
 use kl_base::Range;
 use kl_model::{Group, Input, Kit, KitKind, Object, RawField, Section, Symbol};
 
@@ -104,13 +104,6 @@ fn is_allocated_in(object: &Object, number: u32) -> bool
     }
 }
 
-/// Whether a relocation type is one that is linked (psABI).
-fn is_kind(kind: u32) -> bool
-    ensures { result ≡ is_kind kind }
-{
-    kind < 3 || kind == 4 || kind > 8 && kind < 16 || kind == 24 || kind == 41 || kind == 42
-}
-
 fn is_simple_kind(kind: u32) -> bool
     ensures { result ≡ list_any (λ k. kind == k) (0 ∷ 1 ∷ 2 ∷ 4 ∷ []) }
 {
@@ -120,7 +113,7 @@ fn is_simple_kind(kind: u32) -> bool
 fn is_simple_field(object: &Object, field: &RawField) -> bool
     ensures { result ≡ is_simple_field object.now field.now }
 {
-    !is_allocated_in(object, field.section) || is_simple_kind(field.kind) || !is_kind(field.kind)
+    !is_allocated_in(object, field.section) || is_simple_kind(field.kind) || !is_linked(field.kind)
 }
 
 fn is_no_comdat(group: &Group) -> bool
