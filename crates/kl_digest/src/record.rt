@@ -1,5 +1,5 @@
 // The record of the kernel's digest.
-ghost use Rattle.std.specs.Prelude.{◌≡◌, ◌≤◌, ◌+◌, ◌==◌, ◌||◌, ℕ, List, length, take, drop, true, false, None, Some, Ok, IfOk, IfErr, OnOk};
+ghost use Rattle.std.specs.Prelude.{◌≡◌, ◌≤◌, ◌+◌, ◌==◌, ◌||◌, ℕ, List, length, take, drop, true, false, None, Some, Ok, IfOk, IfErr, OnOk, OnErr};
 ghost use Rattle.hex.specs.Hex.{is_hex_digit, decode_of};
 ghost use Rattle.kl_digest.specs.Records.{record_prefix, record_of, IsRecord, record_fault, text_place, digit_place, is_end, content_fault};
 
@@ -34,6 +34,10 @@ pub fn read_record(bytes: &[u8]) -> Result<[u8; 32], RecordFault>
     ensures ok { IfOk result (λ digest. IsRecord digest bytes.now) }
     ensures none { OnOk result (record_fault bytes.now ≡ None) }
     ensures fault { IfErr result (λ f. record_fault bytes.now ≡ Some f) }
+
+    // No record is refused, and each has one digest.
+    ensures refused { OnErr result ((digest : List ℕ) → ¬ IsRecord digest bytes.now) }
+    ensures only { IfOk result (λ digest. (other : List ℕ) → IsRecord other bytes.now → digest ≡ other) }
 {
     match fault_of(bytes) {
         Some(fault) => Err(fault),

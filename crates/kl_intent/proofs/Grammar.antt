@@ -1,14 +1,14 @@
 -- What is printed is read, and what is read was printed so.
-use Rattle.std.proofs.Common.{◌≡◌, ◌≢◌, ◌≤◌, ◌<◌, ◌+◌, ◌-◌, ◌*◌, ◌⊎◌, inl, inr, ⊎_elim, ℕ, zero, suc, Bool, true, false, not, cond, ◌&&◌, List, [], ◌∷◌, ◌++◌, length, refl, sym, ap, ◌∙◌, subst, arith, append_assoc, length-append, get_or, Option}
+use Rattle.std.proofs.Common.{◌≡◌, ◌≢◌, ◌≤◌, ◌<◌, ◌+◌, ◌*◌, ℕ, zero, suc, Bool, true, false, not, cond, List, [], ◌∷◌, ◌++◌, length, refl, sym, ap, ◌∙◌, subst, arith, append_assoc, length-append, get_or, Option}
 use Rattle.std.specs.Prelude.{Some, None, Ok, Err, Result, IfOk, OnErr, nat_lt, nat_le, is_none, codes}
-use Rattle.std.specs.Option.{option_map, option_and_then}
+use Rattle.std.specs.Option.{option_and_then}
 use Rattle.std.specs.Str.{bytes_eq}
 use Rattle.std.specs.List.{list_all, flat_map, AllByRecursion}
 use Rattle.std.proofs.lemmas.List.{append-nil}
 use Rattle.std.proofs.lemmas.Option.{option_and_then_some}
-use Rattle.std.proofs.lemmas.Bool.{leb-true, lt-ltb, le-ltb, ltb-true, ltb-false}
+use Rattle.std.proofs.lemmas.Bool.{leb-true, le-ltb}
 use Rattle.hex.specs.Hex.{encode_lower}
-use Rattle.kl_base.specs.Names.{is_path_byte, name_fault}
+use Rattle.kl_base.specs.Names.{name_fault}
 use Rattle.kl_base.specs.declared.class.Slot.{Slot}
 use Rattle.kl_base.specs.declared.class.Slot.TheVariants.{Kernel, Libs}
 use Rattle.kl_intent.specs.declared.intent.Entry.{Entry}
@@ -16,7 +16,7 @@ use Rattle.kl_intent.specs.declared.intent.Intent.{Intent}
 use Rattle.kl_intent.specs.declared.read.IntentFault.{IntentFault}
 use Rattle.kl_intent.specs.Reading.{Reads}
 use Rattle.kl_intent.specs.IntentText.{line, is_target, is_target_name, IsOld, old_word, slot_word, entry_line, intent_text, is_new, AreDistinct, IsEntry, AreEntries, cut, after_prefix, digest_of, old_of, target_of, entry_of_words, entry_of, wrong_line, end_of, is_empty, is_last, next_entry, next_line, entries_from, with_slot, read_libs, read_slot, read_head, intent_read, entries_of}
-use Rattle.kl_intent.proofs.Cuts.{cut-append, append-cut, after_prefix-append, append-after_prefix, same_bytes, equal_bytes, and_left, and_right, not_true}
+use Rattle.kl_intent.proofs.Cuts.{cut-append, append-cut, after_prefix-append, append-after_prefix, equal_bytes, and_left, and_right}
 use Rattle.kl_intent.proofs.Spelled.{without, digits_path, digits_count, old_path, target_path, digest_again, digest_from, old_again, old_from}
 
 -- the words of an entry's line
@@ -331,3 +331,18 @@ text_read bytes (Err f) reads = tt
 pub refused_text : (bytes : List ℕ) (r : Result Intent IntentFault) → Reads r (intent_read bytes) → OnErr r ((slot : Slot) (es : List Entry) → AreEntries es → bytes ≢ intent_text slot es)
 refused_text bytes (Ok i) reads = tt
 refused_text bytes (Err f) reads = λ slot es are same. wrong_pair f.line (slot, es) (sym reads ∙ ap intent_read same ∙ intent_again slot es are)
+
+same_pair : (x y : Slot × List Entry) → ◌≡◌ {A = Result (Slot × List Entry) ℕ} (Ok x) (Ok y) → x ≡ y
+same_pair x y e = cc
+
+-- what was printed is given back
+pub pair_back : (bytes : List ℕ) (i : Intent) → Reads (Ok i) (intent_read bytes) → (slot : Slot) (es : List Entry) → AreEntries es → bytes ≡ intent_text slot es → ◌≡◌ {A = Slot × List Entry} (i.slot, entries_of i) (slot, es)
+pair_back bytes i reads slot es are same = same_pair (i.slot, entries_of i) (slot, es) (sym reads.0 ∙ ap intent_read same ∙ intent_again slot es are)
+
+pub slot_back : (bytes : List ℕ) (r : Result Intent IntentFault) → Reads r (intent_read bytes) → IfOk r (λ i. (slot : Slot) (es : List Entry) → AreEntries es → bytes ≡ intent_text slot es → i.slot ≡ slot)
+slot_back bytes (Ok i) reads = λ slot es are same. ap (λ (p : Slot × List Entry). p.0) (pair_back bytes i reads slot es are same)
+slot_back bytes (Err f) reads = tt
+
+pub entries_back : (bytes : List ℕ) (r : Result Intent IntentFault) → Reads r (intent_read bytes) → IfOk r (λ i. (slot : Slot) (es : List Entry) → AreEntries es → bytes ≡ intent_text slot es → entries_of i ≡ es)
+entries_back bytes (Ok i) reads = λ slot es are same. ap (λ (p : Slot × List Entry). p.1) (pair_back bytes i reads slot es are same)
+entries_back bytes (Err f) reads = tt

@@ -1,6 +1,6 @@
 -- The entries that a reader has so far.
-use Rattle.std.proofs.Common.{◌≡◌, ◌≤◌, ◌<◌, ◌+◌, ◌-◌, ◌&&◌, ℕ, zero, suc, Bool, true, false, not, cond, List, [], ◌∷◌, ◌++◌, length, refl, sym, ap, ◌∙◌, subst, arith, length-append, Option}
-use Rattle.std.specs.Prelude.{Some, None, Ok, Err, Result, nat_lt, codes}
+use Rattle.std.proofs.Common.{◌≡◌, ◌<◌, ◌-◌, ℕ, zero, suc, Bool, true, false, cond, List, [], ◌∷◌, ◌++◌, length, refl, sym, ap, ◌∙◌, arith, length-append, Option}
+use Rattle.std.specs.Prelude.{Some, None, Ok, Err, Result, nat_lt}
 use Rattle.std.proofs.lemmas.Bool.{ltb-true, lt-ltb}
 use Rattle.kl_base.specs.declared.class.Slot.{Slot}
 use Rattle.kl_intent.specs.declared.intent.Entry.{Entry}

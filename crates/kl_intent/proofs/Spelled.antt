@@ -1,18 +1,18 @@
 -- Words of printable bytes, and digits among them.
-use Rattle.std.proofs.Common.{◌≡◌, ◌≤◌, ◌<◌, ◌+◌, ◌-◌, ◌*◌, ◌⊎◌, inl, inr, ℕ, Bool, true, false, not, cond, ◌&&◌, List, [], ◌∷◌, ◌++◌, length, refl, sym, ap, ◌∙◌, subst, arith, Option}
-use Rattle.std.specs.Prelude.{Some, None, Ok, Err, Result, ◌==◌, nat_le, is_some, is_none, codes}
-use Rattle.std.specs.Option.{option_map, option_and_then}
+use Rattle.std.proofs.Common.{◌≡◌, ◌≤◌, ◌<◌, ◌-◌, ◌⊎◌, inl, inr, ℕ, Bool, true, false, not, cond, ◌&&◌, List, [], ◌∷◌, length, refl, sym, ap, ◌∙◌, subst, arith, Option}
+use Rattle.std.specs.Prelude.{Some, None, Ok, Err, Result, ◌==◌, nat_le, is_some, is_none}
+use Rattle.std.specs.Option.{option_map}
 use Rattle.std.specs.Str.{bytes_eq}
-use Rattle.std.specs.List.{list_all, AllPass}
+use Rattle.std.specs.List.{list_all}
 use Rattle.std.proofs.lemmas.List.Sums.{list_all-from_AllPass}
 use Rattle.std.proofs.lemmas.Bool.{leb-true, le-leb, eqb-true}
-use Rattle.hex.specs.Hex.{is_hex_digit, encode_lower, lower_digits, decode_of, decode_sized, IsBytes}
+use Rattle.hex.specs.Hex.{is_hex_digit, encode_lower, lower_digits, decode_sized}
 use Rattle.hex.specs.declared.error.FromHexError.{FromHexError}
 use Rattle.hex.proofs.HexLemmas.{decode_of-encode_lower, decode_of-ok, decode_sized-ok, decode_sized-twice, length-encode_with}
 use Rattle.kl_base.specs.Names.{is_path_byte, name_fault}
 use Rattle.kl_base.proofs.Joined.{sound-none}
-use Rattle.kl_intent.specs.IntentText.{is_target, is_target_name, digest_of, digits_of, old_of, old_word, target_of, IsDigest, IsOld}
-use Rattle.kl_intent.proofs.Cuts.{same_bytes, equal_bytes, other_bytes, and_left, and_right, not_true}
+use Rattle.kl_intent.specs.IntentText.{is_target, is_target_name, digest_of, digits_of, old_of, old_word, IsDigest, IsOld}
+use Rattle.kl_intent.proofs.Cuts.{same_bytes, equal_bytes, other_bytes, and_left, and_right}
 
 -- a printable byte that isn't a space, and a digit
 in_range : (low high b : ℕ) → 33 ≤ low → high ≤ 126 → (nat_le low b && nat_le b high) ≡ true → is_path_byte b ≡ true

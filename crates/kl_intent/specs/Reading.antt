@@ -1,10 +1,10 @@
 -- What the reader answers.
-use Rattle.std.specs.Prelude.{◌≡◌, ◌≤◌, ℕ, List, length, Result, Ok, Err}
+use Rattle.std.specs.Prelude.{◌≡◌, ◌≤◌, ℕ, List, Result, Ok, Err}
 use Rattle.kl_base.specs.declared.class.Slot.{Slot}
 use Rattle.kl_intent.specs.declared.intent.Entry.{Entry}
 use Rattle.kl_intent.specs.declared.intent.Intent.{Intent}
 use Rattle.kl_intent.specs.declared.read.IntentFault.{IntentFault}
-use Rattle.kl_intent.specs.IntentText.{entries_of, intent_text, AreEntries}
+use Rattle.kl_intent.specs.IntentText.{entries_of}
 
 -- it answers these entries, or that line
 abbrev pub ReadsEntries : Slot → Result Intent IntentFault → Result (List Entry) ℕ → Type 0

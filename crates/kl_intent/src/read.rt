@@ -27,6 +27,10 @@ pub fn read_intent(bytes: &[u8]) -> Result<Intent, IntentFault>
     // No other text is refused, and none is read in two ways.
     ensures refused { OnErr result ((slot : Slot) (es : List Entry) → AreEntries es → bytes.now ≢ intent_text slot es) }
     ensures read { Reads result (intent_read bytes.now) }
+
+    // What was printed is given back.
+    ensures slot { IfOk result (λ i. (slot : Slot) (es : List Entry) → AreEntries es → bytes.now ≡ intent_text slot es → i.slot ≡ slot) }
+    ensures back { IfOk result (λ i. (slot : Slot) (es : List Entry) → AreEntries es → bytes.now ≡ intent_text slot es → entries_of i ≡ es) }
 {
     parse(bytes)
 }

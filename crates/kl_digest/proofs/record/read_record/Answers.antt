@@ -1,4 +1,5 @@
 use Rattle.std.proofs.Common.{sym}
+use Rattle.kl_digest.proofs.Accepted.{no_record, one_digest}
 use Rattle.kl_digest.proofs.Digits.{clean, is_record}
 use Rattle.kl_digest.proofs.record.read_record.Goals as goal
 
@@ -7,3 +8,9 @@ digest_of-requires-clause-each c = (clean c.args.bytes.now (sym c.in-None.ensure
 
 pub returns-in-None-clause-ok : goal.returns-in-None-clause-ok
 returns-in-None-clause-ok c = is_record c.args.bytes.now c.digest_of.result (sym c.in-None.ensures) c.digest_of.ensures
+
+pub returns-in-Some-clause-refused : goal.returns-in-Some-clause-refused
+returns-in-Some-clause-refused c = no_record c.args.bytes.now _ (sym c.in-Some.ensures)
+
+pub returns-in-None-clause-only : goal.returns-in-None-clause-only
+returns-in-None-clause-only c = λ other is. one_digest c.args.bytes.now c.digest_of.result other c.digest_of.ensures is

@@ -1,6 +1,5 @@
-use Rattle.std.proofs.Common.{◌≡◌, ◌+◌, ◌-◌, ℕ, length, sym, ap, ◌∙◌, subst, arith, length-append, ◌∷◌, [], ◌++◌, List, Ok, Err, Result}
+use Rattle.std.proofs.Common.{◌+◌, ◌-◌, ℕ, length, sym, ap, ◌∙◌, arith, length-append, ◌∷◌, [], List, Err}
 use Rattle.kl_intent.specs.declared.intent.Entry.{Entry}
-use Rattle.kl_intent.specs.Reading.{ReadsEntries}
 use Rattle.kl_intent.specs.IntentText.{entries_of, entries_from, fresh_entry, is_last}
 use Rattle.kl_intent.proofs.SoFar.{no_line, last_line, wrong_entry, more_entry, fresh_room, reads_same}
 use Rattle.kl_intent.proofs.read.read_entries.Goals as goal
