@@ -1,4 +1,6 @@
-use crate::{RecordFault, read_record, record_text, sha256};
+use crate::{RecordFault, digest_file, read_record, record_text, sha256};
+use kl_base::Name;
+use kl_store::{Failed, Store};
 use std::test::Fail;
 
 /// The SHA-256 digest of the bytes `abc`, in hexadecimal digits (FIPS 180-4, the first example of SHA-256).
@@ -49,5 +51,80 @@ fn tells_the_first_fault(rt: HostRuntime) -> Result<(), Fail> {
     for (place, byte, fault) in cases {
         assert_eq!(rt; changed(place, byte), Err(fault), "at {place}");
     }
+    Ok(())
+}
+
+/// A store with one file, of the bytes `abc` under `/abc`, that notes what is asked of it.
+#[derive(Drop)]
+struct OneFile {
+    /// The length of the longest buffer that a read was to fill.
+    longest: u64,
+    /// The furthest place at which such a buffer ended.
+    end: u64,
+}
+
+impl Store for OneFile {
+    ghost use Rattle.kl_store.specs.Meaning.{untold};
+
+    ghost meaning = { λ _. untold };
+
+    ghost faults = { λ _. 0 };
+
+    fn size(&mut self, name: &Name) -> Result<Option<u64>, Failed> {
+        Ok((name.bytes() == b"/abc".as_slice()).then_some(3))
+    }
+
+    fn read(&mut self, _name: &Name, at: u64, buf: &mut [u8]) -> Result<usize, Failed> {
+        let wanted = buf.len() as u64;
+        self.longest = self.longest.max(wanted);
+        self.end = self.end.max(at.saturating_add(wanted));
+        let rest = &b"abc"[(at.min(3)) as usize..];
+        let count = rest.len().min(buf.len());
+        buf[..count].copy_from_slice(&rest[..count]);
+        Ok(count)
+    }
+
+    fn create(&mut self, _name: &Name) -> Result<(), Failed> {
+        Ok(())
+    }
+
+    fn append(&mut self, _name: &Name, _bytes: &[u8]) -> Result<(), Failed> {
+        Ok(())
+    }
+
+    fn rename(&mut self, _from: &Name, _to: &Name) -> Result<bool, Failed> {
+        Ok(false)
+    }
+
+    fn remove(&mut self, _name: &Name) -> Result<bool, Failed> {
+        Ok(false)
+    }
+
+    fn settle(&mut self) -> Result<(), Failed> {
+        Ok(())
+    }
+}
+
+#[test]
+fn digests_a_file_in_pieces(rt: HostRuntime) -> Result<(), Fail> {
+    let name = Name::from_bytes(b"/abc").ok().ok_or("a name")?;
+    let absent = Name::from_bytes(b"/abd").ok().ok_or("a name")?;
+    let mut store = OneFile { longest: 0, end: 0 };
+    let mut buf = [0; 2];
+    assert_eq!(rt;
+        digest_file(&mut store, &name, &mut buf),
+        Ok(Some(sha256(b"abc")))
+    );
+    assert_eq!(rt; (store.longest, store.end), (2, 3));
+    assert_eq!(rt; digest_file(&mut store, &absent, &mut buf), Ok(None));
+
+    // A buffer that is longer than the file is filled no further.
+    let mut store = OneFile { longest: 0, end: 0 };
+    let mut buf = [0; 64];
+    assert_eq!(rt;
+        digest_file(&mut store, &name, &mut buf),
+        Ok(Some(sha256(b"abc")))
+    );
+    assert_eq!(rt; (store.longest, store.end), (3, 3));
     Ok(())
 }

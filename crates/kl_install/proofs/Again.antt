@@ -16,13 +16,13 @@ all_moved-append [] ys x = refl
 all_moved-append (e ∷ xs) ys x = all_moved-append xs ys (moved e x)
 
 -- the temporary is gone
-moved_gone : (e : Entry) (x : Names) → e.target ≢ (temp_of e) → get (moved e x) (temp_of e) ≡ None
+pub moved_gone : (e : Entry) (x : Names) → e.target ≢ (temp_of e) → get (moved e x) (temp_of e) ≡ None
 moved_gone e x apart = ⊎_elim
     (λ some. ap (λ (y : Names). get y (temp_of e)) (cond_true (is_some (get x (temp_of e))) _ _ (ap is_some some.1)) ∙ renamed_from x (temp_of e) e.target (λ is. apart (sym is)))
     (λ none. ap (λ (y : Names). get y (temp_of e)) (cond_false (is_some (get x (temp_of e))) _ _ (ap is_some none)) ∙ none)
     (some_or (get x (temp_of e)))
 
-all_gone : (es : List Entry) (x : Names) → AreApart es → Each (λ e. get (all_moved es x) (temp_of e) ≡ None) es
+pub all_gone : (es : List Entry) (x : Names) → AreApart es → Each (λ e. get (all_moved es x) (temp_of e) ≡ None) es
 all_gone [] x apart = tt
 all_gone (e ∷ es) x apart = (all_moved_other es (moved e x) (temp_of e) apart.2 ∙ moved_gone e x apart.0, all_gone es (moved e x) apart.3)
 
@@ -35,7 +35,7 @@ none_left (e ∷ es) x gone =
 pub moved_again : (done rest : List Entry) (y : Names) → AreApart done → all_moved (done ++ rest) (all_moved done y) ≡ all_moved (done ++ rest) y
 moved_again done rest y apart = all_moved-append done rest (all_moved done y) ∙ ap (all_moved rest) (none_left done (all_moved done y) (all_gone done y apart)) ∙ sym (all_moved-append done rest y)
 
-waiting_new : (p q r : Bool) → ((p && (false || q)) || (r && q)) ≡ true → q ≡ true
+pub waiting_new : (p q r : Bool) → ((p && (false || q)) || (r && q)) ≡ true → q ≡ true
 waiting_new p true r e = refl
 waiting_new true false true e = e
 waiting_new true false false e = e

@@ -7,3 +7,4 @@ pub mod Again
 pub mod TempNames
 pub mod Stagings
 pub mod Redone
+pub mod Ended

@@ -102,7 +102,7 @@ pub again_end : (m x : Names) (es : List Entry) (i : ℕ) → length es ≤ i �
 again_end m x es i all names = names ∙ ap (λ (l : List Entry). all_moved l m) (take_all i es all)
 
 -- whether all entries are sound
-sound_first : (b : Bool) (rest : Option Unsound) (u : Unsound) → cond b rest (Some u) ≡ None → (b ≡ true) × (rest ≡ None)
+pub sound_first : (b : Bool) (rest : Option Unsound) (u : Unsound) → cond b rest (Some u) ≡ None → (b ≡ true) × (rest ≡ None)
 sound_first true rest u e = (refl, e)
 sound_first false rest u e = let no : ◌≡◌ {A = Option Unsound} (Some u) None = e in cc
 

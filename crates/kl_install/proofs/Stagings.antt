@@ -1,8 +1,8 @@
 -- A file is staged.
-use Rattle.std.proofs.Common.{◌≡◌, ◌≢◌, ◌<◌, ℕ, List, [], ◌∷◌, ◌++◌, length, refl, sym, ap, ◌∙◌, subst, arith, true, false, append_assoc}
+use Rattle.std.proofs.Common.{◌≡◌, ◌≢◌, ◌<◌, ℕ, List, [], ◌∷◌, ◌++◌, length, refl, sym, ap, ◌∙◌, subst, arith, true, false, append_assoc, length-append}
 use Rattle.std.specs.Str.{bytes_eq}
-use Rattle.std.proofs.lemmas.List.{append-nil}
-use Rattle.std.specs.Prelude.{Option, Some, None, option_map, is_some, not}
+use Rattle.std.proofs.lemmas.List.{append-nil, length-take}
+use Rattle.std.specs.Prelude.{Option, Some, None, option_map, is_some, not, take, drop}
 use Rattle.std.specs.List.{AllByRecursion}
 use Rattle.std.specs.FinMap.{get}
 use Rattle.sha2.specs.Sha256.{sha256}
@@ -38,6 +38,10 @@ files_then settled ready still written = leaves_on (weaker (leaves_still settled
 
 pub files_none : {x y : Meaning} → LeavesOfDisk x y Nothing → LeavesOfDisk x y HasFiles
 files_none settled = weaker settled (λ d told n none. absurd none)
+
+-- a buffer that is written over has room still
+pub kept_room : (n : ℕ) (new old : List ℕ) → length old ≡ n → length new ≡ length old → 0 < length old → 0 < length (take n (new ++ drop (length new) old))
+kept_room n new old size same room = omega (arith, size, same, room, length-take n (new ++ drop (length new) old), length-append new (drop (length new) old))
 
 pub each_more : (es : List Entry) (e : Entry) → AllByRecursion IsEntry es → IsEntry e → AllByRecursion IsEntry (es ++ e ∷ [])
 each_more [] e each is = (is, tt)

@@ -1,9 +1,8 @@
 -- What an installer knows.
-use Rattle.std.specs.Prelude.{◌≡◌, Bool, true, List, []}
-use Rattle.std.specs.List.{AllByRecursion}
+use Rattle.std.specs.Prelude.{Bool, List}
 use Rattle.kl_base.specs.declared.class.Slot.{Slot}
 use Rattle.kl_intent.specs.declared.intent.Entry.{Entry}
-use Rattle.kl_intent.specs.IntentText.{entries_of, IsEntry, AreDistinct}
+use Rattle.kl_intent.specs.IntentText.{entries_of}
 use Rattle.kl_install.specs.declared.installer.Installer.{Installer}
 use Rattle.kl_install.specs.Batch.{Batch, batch}
 
@@ -19,12 +18,6 @@ slot_of i = i.intent.slot
 abbrev pub batch_of : Installer → Batch
 batch_of i = batch (slot_of i) (staged i)
 
--- whether no call has failed
+-- whether files may be staged and committed: no call has failed
 abbrev pub is_ready : Installer → Bool
 is_ready i = i.ready
-
--- files may be staged and committed: no call has failed, and the staged ones are entries with distinct targets
-pub record IsReady (i : Installer) : Type 0 where
-  pub flag : is_ready i ≡ true
-  pub each : AllByRecursion IsEntry (staged i)
-  pub distinct : AreDistinct [] (staged i)

@@ -6,3 +6,5 @@ pub mod Recovery
 pub mod Finding
 pub mod Staging
 pub mod Installers
+pub mod Recovered
+pub mod Props

@@ -15,7 +15,7 @@ ghost use Rattle.kl_install.specs.Committed.{Commits};
 ghost use Rattle.kl_install.specs.Moving.{IsMoving, AreMoved, HasIntent, MayIntend, CanMove, CanRemove};
 
 use kl_base::{Name, Slot};
-use kl_intent::{Entry, Intent, entries, print_intent, slot_name};
+use kl_intent::{Entry, Intent, print_intent, slot_name};
 use kl_store::{Failed, Store};
 
 // Puts each staged file in its target's place.
@@ -55,7 +55,7 @@ fn move_batch<S: Store>(store: &mut S, intent: &Intent) -> Result<(), Failed>
     ensures images { Leaves (S.meaning store.old) (S.meaning store.new) (IsMoving (entries_of intent.now)) }
     ensures cause { HasCause (S.faults store.old) (S.faults store.new) result }
 {
-    move_all(store, entries(intent))
+    move_all(store, intent.entries())
 }
 
 // The slot is free, on the disk.

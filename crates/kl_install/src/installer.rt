@@ -2,13 +2,17 @@
 ghost use Rattle.std.specs.Prelude.{◌≡◌, ◌≤◌, ◌<◌, [], length, true, false, IfOk, OnOk, OnErr, None};
 ghost use Rattle.std.specs.Option.{ForSome};
 ghost use Rattle.std.specs.FinMap.{get};
+ghost use Rattle.std.specs.List.{AllByRecursion};
 ghost use Rattle.kl_store.specs.Calls.{HasCause, Holds};
+ghost use Rattle.kl_store.specs.Disk.{names_now};
 ghost use Rattle.kl_store.specs.Files.{SameFiles};
-ghost use Rattle.kl_store.specs.Images.{Leaves, LeavesOfDisk, Ends};
-ghost use Rattle.kl_intent.specs.IntentText.{is_target, is_new, slot_name, entries_of};
+ghost use Rattle.kl_store.specs.Images.{Leaves, LeavesOfDisk, Ends, IsSettledAt};
+ghost use Rattle.kl_intent.specs.IntentText.{is_target, is_new, slot_name, entries_of, IsEntry, AreDistinct};
+ghost use Rattle.kl_install.specs.Props.{each-prop, distinct-prop};
 ghost use Rattle.kl_install.specs.After.{after};
 ghost use Rattle.kl_install.specs.Batch.{IsStaged};
 ghost use Rattle.kl_install.specs.Committed.{Commits};
+ghost use Rattle.kl_install.specs.Recovered.{Recovers};
 ghost use Rattle.kl_install.specs.Recovery.{slot_end, is_clear};
 ghost use Rattle.kl_install.specs.Staging.{CanGoOn, HasFiles, Stages};
 
@@ -18,7 +22,7 @@ use crate::recover::recover;
 use crate::stage::{entry_of, stage_file};
 use kl_base::{Name, NoMemory, Slot};
 use kl_digest::sha256;
-use kl_intent::{Intent, add, no_entries};
+use kl_intent::Intent;
 use kl_store::{Failed, Store};
 use std::alloc::Global;
 
@@ -31,20 +35,22 @@ pub struct Installer {
     buf: Vec<u8>,
     ghost few: { intent.count ≤ 8 },
     ghost size: { length (entries_of intent) ≡ intent.count },
+    ghost each: { AllByRecursion IsEntry (entries_of intent) } by { each-prop (entries_of intent) },
+    ghost distinct: { AreDistinct [] (entries_of intent) } by { distinct-prop [] (entries_of intent) },
     ghost room: { 0 < length buf.items },
 }
 
 impl Installer {
-    ghost use Rattle.kl_install.specs.Installers.{staged, slot_of, batch_of, is_ready, IsReady};
+    ghost use Rattle.kl_install.specs.Installers.{staged, slot_of, batch_of, is_ready};
 
     /// An installer that is ready, with nothing staged. It keeps a buffer of 65,536 bytes.
     pub fn new(alloc: Global, slot: Slot) -> Result<Installer, NoMemory>
         ensures slot { IfOk result (λ i. slot_of i ≡ slot) }
         ensures staged { IfOk result (λ i. staged i ≡ []) }
-        ensures ready { IfOk result IsReady }
+        ensures ready { IfOk result (λ i. is_ready i ≡ true) }
     {
         Ok(Installer {
-            intent: no_entries(slot),
+            intent: Intent::new(slot),
             ready: true,
             buf: vec![in alloc; 0; 65_536]?,
         })
@@ -65,14 +71,14 @@ impl Installer {
         target: &Name,
         bytes: &[u8],
     ) -> Result<(), Failed>
-        requires ready { IsReady self.old }
+        requires ready { is_ready self.old ≡ true }
         requires free { Holds (S.meaning store.old) (slot_name (slot_of self.old)) (λ file. file ≡ None) }
         requires room { length (staged self.old) < 8 }
         requires target { is_target target.now ≡ true }
         requires fresh { is_new target.now (staged self.old) ≡ true }
         requires so_far { CanGoOn (batch_of self.old) (S.meaning store.old) }
         ensures slot { slot_of self.new ≡ slot_of self.old }
-        ensures ready { OnOk result (IsReady self.new) }
+        ensures ready { OnOk result (is_ready self.new ≡ true) }
         ensures not_ready { OnErr result (is_ready self.new ≡ false) }
         ensures staged { OnOk result (Stages (batch_of self.old) target.now bytes.now (staged self.new) (S.meaning store.old) (S.meaning store.new)) }
 
@@ -88,18 +94,18 @@ impl Installer {
         self.ready = false;
         let first = self.intent.count == 0;
         let old = stage_file(store, first, target, bytes, &mut self.buf)?;
-        add(&mut self.intent, entry_of(target, old, sha256(bytes)));
+        self.intent.push(entry_of(target, old, sha256(bytes)));
         self.ready = true;
         Ok(())
     }
 
     /// Puts all staged files in their targets' places. After a failure only `recover` may be called.
     pub fn commit<S: Store>(&mut self, store: &mut S) -> Result<(), Failed>
-        requires ready { IsReady self.old }
+        requires ready { is_ready self.old ≡ true }
         requires some { 0 < length (staged self.old) }
         requires staged { ForSome (S.meaning store.old).disk (IsStaged (batch_of self.old)) }
         ensures slot { slot_of self.new ≡ slot_of self.old }
-        ensures ready { OnOk result (IsReady self.new) }
+        ensures ready { OnOk result (is_ready self.new ≡ true) }
         ensures not_ready { OnErr result (is_ready self.new ≡ false) }
         ensures staged { OnOk result (staged self.new ≡ []) }
         ensures commits { Commits (batch_of self.old) (S.meaning store.old) (S.meaning store.new) result }
@@ -107,7 +113,7 @@ impl Installer {
     {
         self.ready = false;
         install(store, &self.intent)?;
-        self.intent = no_entries(self.intent.slot);
+        self.intent = Intent::new(self.intent.slot);
         self.ready = true;
         Ok(())
     }
@@ -115,19 +121,23 @@ impl Installer {
     /// Completes the batch whose intent stands in the slot, if each of its entries is sound, or says what is wrong.
     pub fn recover<S: Store>(&mut self, store: &mut S) -> Result<SlotEnd, Failed>
         ensures slot { slot_of self.new ≡ slot_of self.old }
-        ensures ready { IfOk result (λ end. is_clear end ≡ true → IsReady self.new) }
-        ensures unready { IfOk result (λ end. is_clear end ≡ false → is_ready self.new ≡ false) }
+        ensures ready { IfOk result (λ end. is_ready self.new ≡ is_clear end) }
         ensures not_ready { OnErr result (is_ready self.new ≡ false) }
         ensures staged { IfOk result (λ end. is_clear end ≡ true → staged self.new ≡ []) }
         ensures end { IfOk result (λ end. ForSome (S.meaning store.old).names (λ m. end ≡ slot_end (slot_of self.old) m)) }
+
+        // What each end found, and what it leaves.
+        ensures recovers { IfOk result (λ end. ForSome (S.meaning store.old).disk (λ d. IsSettledAt (S.meaning store.new).disk (Recovers (slot_of self.old) end (names_now d)))) }
         ensures done { Ends (S.meaning store.old) (S.meaning store.new) result (λ m x. x ≡ after (slot_of self.old) m) }
+
+        // Wherever it stops, recovery goes on to the same names.
         ensures images { Leaves (S.meaning store.old) (S.meaning store.new) (λ m x. after (slot_of self.old) x ≡ after (slot_of self.old) m) }
         ensures cause { HasCause (S.faults store.old) (S.faults store.new) result }
     {
         self.ready = false;
         let end = recover(store, self.intent.slot, &mut self.buf)?;
         if is_clear(&end) {
-            self.intent = no_entries(self.intent.slot);
+            self.intent = Intent::new(self.intent.slot);
             self.ready = true;
         }
         Ok(end)

@@ -15,7 +15,7 @@ ghost use Rattle.kl_install.specs.Finding.{IsFound, FoundFits, HasIntentOf};
 use crate::install::{forget, take_place};
 use crate::sound::first_unsound;
 use kl_base::{Name, Slot};
-use kl_intent::{Entry, Intent, entries, read_intent, slot_name};
+use kl_intent::{Entry, Intent, read_intent, slot_name};
 use kl_store::{Failed, Store};
 
 /// How the recovery of a slot ended.
@@ -125,7 +125,7 @@ fn finish_batch<S: Store>(
     ensures images { Leaves (S.meaning store.old) (S.meaning store.new) (λ m x. after slot x ≡ after slot m) }
     ensures cause { HasCause (S.faults store.old) (S.faults store.new) result }
 {
-    finish(store, slot, entries(intent), buf)
+    finish(store, slot, intent.entries(), buf)
 }
 
 fn finish<S: Store>(

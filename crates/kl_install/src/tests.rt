@@ -1,7 +1,7 @@
 ghost use Rattle.std.specs.Prelude.{◌≡◌, [], codes, true, None};
 ghost use Rattle.kl_store.specs.Calls.{Holds};
 ghost use Rattle.kl_intent.specs.IntentText.{is_target, slot_name};
-ghost use Rattle.kl_install.specs.Installers.{staged, slot_of, IsReady};
+ghost use Rattle.kl_install.specs.Installers.{staged, slot_of, is_ready};
 
 use crate::{Installer, SlotEnd};
 use kl_base::{Name, Slot};
@@ -32,7 +32,7 @@ fn name_c() -> Name
 
 /// Replaces three files as one batch.
 fn replace_three<S: Store>(installer: &mut Installer, store: &mut S) -> Result<(), Failed>
-    requires ready { IsReady installer.old }
+    requires ready { is_ready installer.old ≡ true }
     requires none { staged installer.old ≡ [] }
     requires free { Holds (S.meaning store.old) (slot_name (slot_of installer.old)) (λ file. file ≡ None) }
 {

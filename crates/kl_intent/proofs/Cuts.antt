@@ -83,6 +83,21 @@ append-cut sep (b ∷ text) l rest e = go (b == sep) refl e (append-cut sep text
         let r = longer b (cut sep text) l rest e in
         rw r.2 (ap (λ (t : List ℕ). b ∷ t) (more r.0 rest r.1))
 
+-- the first part is without the value
+pub cut-line : (sep : ℕ) (text l rest : List ℕ) → cut sep text ≡ Some (l, rest) → list_all (λ b. not (b == sep)) l ≡ true
+cut-line sep [] l rest e = cc
+cut-line sep (b ∷ text) l rest e = go (b == sep) refl e (cut-line sep text)
+  where
+    go : (t : Bool) → (b == sep) ≡ t → cond {A = Option (List ℕ × List ℕ)} t (Some ([], text)) (option_map {U = List ℕ × List ℕ} (λ (x, y). (b ∷ x, y)) (cut sep text)) ≡ Some (l, rest)
+        → ((x y : List ℕ) → cut sep text ≡ Some (x, y) → list_all (λ c. not (c == sep)) x ≡ true) → list_all (λ c. not (c == sep)) l ≡ true
+    go true is p more =
+        let same : ([], text) ≡ (l, rest) = cc in
+        let none : [] ≡ l = ap (λ (q : List ℕ × List ℕ). q.0) same in
+        rw (← none) refl
+    go false is p more =
+        let r = longer b (cut sep text) l rest p in
+        rw (r.2, is) (more r.0 rest r.1)
+
 -- the parts end where the value stands first
 pub cut-none : (sep : ℕ) (text : List ℕ) (k : ℕ) → position_from (λ b. b == sep) k text ≡ None → cut sep text ≡ None
 cut-none sep [] k e = refl

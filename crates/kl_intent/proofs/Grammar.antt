@@ -191,7 +191,7 @@ next_from before (Some (l, rest)) left text all more cuts reads go = cases (is_l
     cases true last = ended before (suc left) text l rest all cuts last (sym (ap (λ b. cond b (end_of before rest) (next_entry before (entry_of l) (λ x. more x rest))) last) ∙ reads)
     cases false more_lines = line_from before (entry_of l) left text l rest all more cuts refl (sym (ap (λ b. cond b (end_of before rest) (next_entry before (entry_of l) (λ x. more x rest))) more_lines) ∙ reads) (λ e. go e rest)
 
-none_left : (before : List Entry) (o : Option Entry) (rest : List ℕ) (all : List Entry) → next_entry before o (λ x. wrong_line before) ≡ Ok all → ⊥
+pub none_left : (before : List Entry) (o : Option Entry) (rest : List ℕ) (all : List Entry) → next_entry before o (λ x. wrong_line before) ≡ Ok all → ⊥
 none_left before None rest all e = wrong (length before + 3) all e
 none_left before (Some x) rest all e = cases (is_new x.target before) refl
   where
@@ -263,7 +263,7 @@ wrong_pair n x e = cc
 abbrev ok_of : List Entry → Result (List Entry) ℕ
 ok_of es = Ok es
 
-with_slot_ok : (s slot : Slot) (r : Result (List Entry) ℕ) (es : List Entry) → with_slot s r ≡ Ok (slot, es) → (s ≡ slot) × (r ≡ Ok es)
+pub with_slot_ok : (s slot : Slot) (r : Result (List Entry) ℕ) (es : List Entry) → with_slot s r ≡ Ok (slot, es) → (s ≡ slot) × (r ≡ Ok es)
 with_slot_ok s slot (Ok xs) es e = (ap (λ (p : Slot × List Entry). p.0) (pair e), ap (λ (p : Slot × List Entry). ok_of p.1) (pair e))
   where
     pair : ◌≡◌ {A = Result (Slot × List Entry) ℕ} (Ok (s, xs)) (Ok (slot, es)) → ◌≡◌ {A = Slot × List Entry} (s, xs) (slot, es)
@@ -304,7 +304,7 @@ head_from bytes (Some rest) slot es found is =
     let parts = slot_from rest (after_prefix (line (codes "batch kernel")) rest) slot es refl is in
     record { entries = parts.0; text = append-after_prefix (line (codes "relink intent 1")) bytes rest found ∙ ap (λ (l : List ℕ). line (codes "relink intent 1") ++ l) parts.1 }
 
-short : (b : Bool) (r : Result (Slot × List Entry) ℕ) (x : Slot × List Entry) → cond b (Err 0) r ≡ Ok x → r ≡ Ok x
+pub short : (b : Bool) (r : Result (Slot × List Entry) ℕ) (x : Slot × List Entry) → cond b (Err 0) r ≡ Ok x → r ≡ Ok x
 short true r x e = wrong_pair 0 x e
 short false r x e = e
 

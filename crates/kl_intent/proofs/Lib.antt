@@ -2,3 +2,4 @@ pub mod Cuts
 pub mod SoFar
 pub mod Spelled
 pub mod Grammar
+pub mod Outside

@@ -1,2 +1,3 @@
 pub mod IntentText
 pub mod Reading
+pub mod Outside

@@ -31,38 +31,40 @@ pub fn slot_name(slot: Slot) -> Name
     }
 }
 
-/// The intent of the slot with no entry.
-pub fn no_entries(slot: Slot) -> Intent
-    ensures slot { result.slot ≡ slot }
-    ensures count { result.count ≡ 0 }
-{
-    let blank = Entry {
-        target: slot_name(slot),
-        old: None,
-        new: [0; 32],
-    };
-    Intent {
-        slot,
-        count: 0,
-        entries: [blank; 8],
+impl Intent {
+    /// The intent of the slot with no entry.
+    pub fn new(slot: Slot) -> Intent
+        ensures slot { result.slot ≡ slot }
+        ensures count { result.count ≡ 0 }
+    {
+        let blank = Entry {
+            target: slot_name(slot),
+            old: None,
+            new: [0; 32],
+        };
+        Intent {
+            slot,
+            count: 0,
+            entries: [blank; 8],
+        }
     }
-}
 
-/// Adds an entry behind the others.
-pub fn add(intent: &mut Intent, entry: Entry)
-    requires { intent.old.count < 8 }
-    ensures slot { intent.new.slot ≡ intent.old.slot }
-    ensures count { intent.new.count ≡ intent.old.count + 1 }
-    ensures entries { entries_of intent.new ≡ entries_of intent.old ++ entry ∷ [] }
-{
-    intent.entries[intent.count as usize] = entry;
-    intent.count += 1;
-}
+    /// Adds an entry behind the others.
+    pub fn push(&mut self, entry: Entry)
+        requires { self.old.count < 8 }
+        ensures slot { self.new.slot ≡ self.old.slot }
+        ensures count { self.new.count ≡ self.old.count + 1 }
+        ensures entries { entries_of self.new ≡ entries_of self.old ++ entry ∷ [] }
+    {
+        self.entries[self.count as usize] = entry;
+        self.count += 1;
+    }
 
-/// The entries that are meant.
-pub fn entries(intent: &Intent) -> &[Entry]
-    requires { intent.now.count ≤ 8 }
-    ensures { result.now ≡ entries_of intent.now }
-{
-    &intent.entries[..intent.count as usize]
+    /// The entries that are meant.
+    pub fn entries(&self) -> &[Entry]
+        requires { self.now.count ≤ 8 }
+        ensures { result.now ≡ entries_of self.now }
+    {
+        &self.entries[..self.count as usize]
+    }
 }

@@ -8,7 +8,7 @@ mod print;
 mod read;
 mod words;
 
-pub use intent::{Entry, Intent, add, entries, no_entries, slot_name};
+pub use intent::{Entry, Intent, slot_name};
 pub use print::print_intent;
 pub use read::{IntentFault, read_intent};
 

@@ -4,7 +4,7 @@ ghost use Rattle.std.specs.List.{flat_map, AllByRecursion};
 ghost use Rattle.hex.specs.Hex.{encode_lower};
 ghost use Rattle.kl_intent.specs.IntentText.{line, slot_word, old_word, entry_line, intent_text, entries_of, IsEntry, AreEntries};
 
-use crate::intent::{Entry, Intent, entries};
+use crate::intent::{Entry, Intent};
 use kl_base::Slot;
 
 /// Prints the intent's text into `out`, from its start on, and says how many bytes it has. The other bytes
@@ -16,7 +16,7 @@ pub fn print_intent(intent: &Intent, out: &mut [u8; 4096]) -> usize
     ensures text { take result out.new ≡ intent_text intent.now.slot (entries_of intent.now) }
 {
     let at = print_head(intent.slot, out);
-    let at = print_entries(entries(intent), out, at);
+    let at = print_entries(intent.entries(), out, at);
     put(out, at, b"end\n")
 }
 

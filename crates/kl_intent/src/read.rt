@@ -4,9 +4,10 @@ ghost use Rattle.kl_base.specs.declared.class.Slot.{Slot};
 ghost use Rattle.kl_intent.specs.declared.intent.Entry.{Entry};
 ghost use Rattle.kl_intent.specs.IntentText.{intent_read, intent_text, AreEntries, read_slot, read_libs, after_prefix, line, entries_of, entries_from, entry_of, entry_of_words, fresh_entry, is_target, is_target_name, is_new, is_other, is_last, end_of, target_of};
 ghost use Rattle.kl_intent.specs.Reading.{Reads, ReadsEntries};
+ghost use Rattle.kl_intent.specs.Outside.{IsFirstOutside};
 
 use crate::digests::{digest_of, old_of};
-use crate::intent::{Entry, Intent, add, entries, no_entries};
+use crate::intent::{Entry, Intent};
 use crate::words::split;
 use kl_base::{Name, Slot};
 
@@ -27,6 +28,10 @@ pub fn read_intent(bytes: &[u8]) -> Result<Intent, IntentFault>
     // No other text is refused, and none is read in two ways.
     ensures refused { OnErr result ((slot : Slot) (es : List Entry) → AreEntries es → bytes.now ≢ intent_text slot es) }
     ensures read { Reads result (intent_read bytes.now) }
+
+    // A refused text has a first line outside the grammar, and no line is told of one that is too long.
+    ensures long { IfErr result (λ f. 4096 < length bytes.now → f.line ≡ 0) }
+    ensures outside { IfErr result (λ f. length bytes.now ≤ 4096 → IsFirstOutside bytes.now f.line) }
 
     // What was printed is given back.
     ensures slot { IfOk result (λ i. (slot : Slot) (es : List Entry) → AreEntries es → bytes.now ≡ intent_text slot es → i.slot ≡ slot) }
@@ -71,16 +76,16 @@ fn read_libs(text: &[u8]) -> Result<Intent, IntentFault>
 fn read_entries(slot: Slot, text: &[u8]) -> Result<Intent, IntentFault>
     ensures { ReadsEntries slot result (entries_from 8 [] text.now) }
 {
-    let mut intent = no_entries(slot);
+    let mut intent = Intent::new(slot);
     let mut rest = text;
     while let Some((line, more)) = split(rest, b'\n') {
-        if is_last(entries(&intent), line) {
+        if is_last(intent.entries(), line) {
             return ended(intent, more);
         }
-        let Some(entry) = fresh_entry(entries(&intent), line) else {
+        let Some(entry) = fresh_entry(intent.entries(), line) else {
             break;
         };
-        add(&mut intent, entry);
+        intent.push(entry);
         rest = more;
     }
     Err(IntentFault {

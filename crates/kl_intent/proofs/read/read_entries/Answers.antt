@@ -5,8 +5,8 @@ use Rattle.kl_intent.proofs.SoFar.{no_line, last_line, wrong_entry, more_entry, 
 use Rattle.kl_intent.proofs.read.read_entries.Goals as goal
 use Rattle.kl_intent.proofs.read.read_entries.Goals.{in-Some+else-is_last+in_default-fresh_entry, in_default}
 
-pub add-requires : goal.add-requires
-add-requires c =
+pub push-requires : goal.push-requires
+push-requires c =
     let before = entries_of c.loop-line.intent in
     let less = fresh_room before c.in-Some.line.now c.in-Some-fresh_entry.entry (ap (λ (l : List Entry). fresh_entry l c.in-Some.line.now) (sym c.entries-in-Some.ensures) ∙ sym c.in-Some-fresh_entry.ensures) in
     omega (arith, less, c.loop-line.invariant.size)
@@ -20,11 +20,11 @@ loop-line-preserved c =
     let less = fresh_room before line e is in
     let last = ap (λ (l : List Entry). is_last l line) (sym c.entries.ensures) ∙ sym c.is_last.ensures ∙ c.if-is_last.false in
     record {
-      few = omega (arith, less, c.loop-line.invariant.size, c.add.ensures.count);
-      size = ap length c.add.ensures.entries ∙ omega (arith, length-append before (e ∷ []), c.loop-line.invariant.size, c.add.ensures.count);
-      slot = c.add.ensures.slot ∙ c.loop-line.invariant.slot;
+      few = omega (arith, less, c.loop-line.invariant.size, c.push.ensures.count);
+      size = ap length c.push.ensures.entries ∙ omega (arith, length-append before (e ∷ []), c.loop-line.invariant.size, c.push.ensures.count);
+      slot = c.push.ensures.slot ∙ c.loop-line.invariant.slot;
       rest = c.loop-line.invariant.rest ∙ more_entry (8 - length before) before c.loop-line.rest.now line c.in-Some.more.now e (omega arith) (sym c.in-Some.ensures) last is
-          ∙ ap (λ (l : List Entry). entries_from (8 - length l) l c.in-Some.more.now) (sym c.add.ensures.entries);
+          ∙ ap (λ (l : List Entry). entries_from (8 - length l) l c.in-Some.more.now) (sym c.push.ensures.entries);
     }
 
 pub returns-then-is_last : goal.returns-then-is_last
