@@ -1,8 +1,13 @@
+use crate::ReadKind::{
+    Align, FieldOverlap, GroupForm, Head, NameRange, RelaKindForm, RelaLink, RelaPlace,
+    SectionRange, SectionTable, SymbolSection, SymbolTable, Unsupported,
+};
 use crate::{Feature, ReadError, ReadFault, ReadKind, read_object};
 use kl_base::Range;
 use kl_elf::HeadFault;
 use kl_model::{RawField, Section, Symbol};
-use std::test::Fail;
+use std::alloc::Global;
+use std::process::Abort;
 
 /// An object as `readelf` shows it: a text of 16 bytes with two relocation entries, a COMDAT group that holds it, and the
 /// tables of symbols and names. What stands at each place is said above it.
@@ -164,9 +169,9 @@ fn tells_an_object_that_is_cut_short(rt: HostRuntime) {
     for object in [OBJECT.as_slice(), CALL.as_slice()] {
         for len in 0..object.len() {
             let flaw = if len < 64 {
-                flaw(ReadKind::Head(HeadFault::Truncated), len as u64)
+                flaw(Head(HeadFault::Truncated), len as u64)
             } else {
-                flaw(ReadKind::SectionTable, 40)
+                flaw(SectionTable, 40)
             };
             let read = read_object(rt.alloc(), &object[..len]);
             assert_eq!(rt; read.err(), flaw.map(ReadError::Flaw));
@@ -180,153 +185,170 @@ fn tells_a_field_that_passes_its_section(rt: HostRuntime) {
     assert!(rt; read_object(rt.alloc(), &bytes).is_ok());
     bytes[128] = 2;
     let read = read_object(rt.alloc(), &bytes);
-    assert_eq!(rt;
-        read.err(),
-        flaw(ReadKind::RelaPlace, 128).map(ReadError::Flaw)
-    );
+    assert_eq!(rt; read.err(), flaw(RelaPlace, 128).map(ReadError::Flaw));
+}
+
+/// Bytes of the object that are changed, and the first flaw that it has then: its kind and place.
+type Row<'a> = (&'a [(usize, u8)], ReadKind, u64);
+
+/// Asserts the flaw of each row.
+fn assert_flaws(rt: &impl Abort, alloc: Global, rows: &[Row]) {
+    for (changes, kind, at) in rows {
+        let read = read_object(alloc, &changed(changes));
+        assert_eq!(rt; read.err(), flaw(*kind, *at).map(ReadError::Flaw));
+    }
 }
 
 #[test]
-fn tells_the_first_flaw(rt: HostRuntime) {
-    let rows: [(&[(usize, u8)], ReadKind, u64); 67] = [
-        // the section header table
-        (&[(18, 3)], ReadKind::Head(HeadFault::Machine), 18),
-        (&[(60, 0)], ReadKind::Unsupported(Feature::Extended), 60),
-        (
-            &[(62, 0xff), (63, 0xff)],
-            ReadKind::Unsupported(Feature::Extended),
-            62,
-        ),
-        (&[(40, 0), (41, 0), (60, 0)], ReadKind::SectionTable, 60),
-        (&[(40, 9)], ReadKind::SectionTable, 40),
-        (&[(47, 0xff)], ReadKind::SectionTable, 40),
-        (&[(60, 8)], ReadKind::SectionTable, 40),
-        (&[(62, 0)], ReadKind::SectionTable, 62),
-        (&[(62, 7)], ReadKind::SectionTable, 62),
-        (&[(62, 1)], ReadKind::SectionTable, 62),
-        // the places of sections: one at 2^64 - 1, and one past the end
+fn tells_a_flaw_of_the_file_header(rt: HostRuntime) {
+    let extended = Unsupported(Feature::Extended);
+    let rows: [Row; 10] = [
+        (&[(18, 3)], Head(HeadFault::Machine), 18),
+        (&[(60, 0)], extended, 60),
+        (&[(62, 0xff), (63, 0xff)], extended, 62),
+        (&[(40, 0), (41, 0), (60, 0)], SectionTable, 60),
+        (&[(40, 9)], SectionTable, 40),
+        (&[(47, 0xff)], SectionTable, 40),
+        (&[(60, 8)], SectionTable, 40),
+        (&[(62, 0)], SectionTable, 62),
+        (&[(62, 7)], SectionTable, 62),
+        (&[(62, 1)], SectionTable, 62),
+    ];
+    assert_flaws(&rt, rt.alloc(), &rows);
+}
+
+#[test]
+fn tells_a_section_that_passes_the_end_of_the_file(rt: HostRuntime) {
+    let rows: [Row; 2] = [
+        // one at 2^64 - 1, and one that ends past the file
         (
             &[
-                (359, 0xff),
-                (358, 0xff),
-                (357, 0xff),
-                (356, 0xff),
-                (355, 0xff),
-                (354, 0xff),
-                (353, 0xff),
                 (352, 0xff),
+                (353, 0xff),
+                (354, 0xff),
+                (355, 0xff),
+                (356, 0xff),
+                (357, 0xff),
+                (358, 0xff),
+                (359, 0xff),
             ],
-            ReadKind::SectionRange,
+            SectionRange,
             352,
         ),
-        (&[(617, 2)], ReadKind::SectionRange, 608),
-        // the sections
-        (&[(328, 48)], ReadKind::NameRange, 328),
-        (&[(337, 6)], ReadKind::Unsupported(Feature::Tls), 336),
-        (
-            &[(337, 10)],
-            ReadKind::Unsupported(Feature::Compressed),
-            336,
-        ),
-        (
-            &[(336, 7)],
-            ReadKind::Unsupported(Feature::WriteExecute),
-            336,
-        ),
-        (
-            &[(332, 3)],
-            ReadKind::Unsupported(Feature::SectionType),
-            332,
-        ),
-        (
-            &[(332, 0)],
-            ReadKind::Unsupported(Feature::SectionType),
-            332,
-        ),
-        (
-            &[(460, 9), (464, 2)],
-            ReadKind::Unsupported(Feature::SectionType),
-            460,
-        ),
+        (&[(617, 2)], SectionRange, 608),
+    ];
+    assert_flaws(&rt, rt.alloc(), &rows);
+}
+
+#[test]
+fn tells_a_flaw_of_a_section(rt: HostRuntime) {
+    let section_type = Unsupported(Feature::SectionType);
+    let rows: [Row; 11] = [
+        (&[(328, 48)], NameRange, 328),
+        (&[(337, 6)], Unsupported(Feature::Tls), 336),
+        (&[(337, 10)], Unsupported(Feature::Compressed), 336),
+        (&[(336, 7)], Unsupported(Feature::WriteExecute), 336),
+        (&[(332, 3)], section_type, 332),
+        (&[(332, 0)], section_type, 332),
+        (&[(460, 9), (464, 2)], section_type, 460),
+        // the name .dtors.symtab
         (
             &[
                 (215, b'd'),
+                (216, b't'),
                 (217, b'o'),
                 (218, b'r'),
                 (219, b's'),
-                (216, b't'),
             ],
-            ReadKind::Unsupported(Feature::Priority),
+            Unsupported(Feature::Priority),
             328,
         ),
-        (&[(376, 3)], ReadKind::Align, 376),
-        (&[(376, 0), (378, 0x40)], ReadKind::Align, 376),
-        (&[(332, 8), (363, 0x40)], ReadKind::SectionRange, 360),
-        // the symbol table
-        (&[(524, 2)], ReadKind::SymbolTable, 524),
-        (&[(488, 0)], ReadKind::SymbolTable, 488),
-        (&[(488, 71)], ReadKind::SymbolTable, 488),
-        (&[(512, 23)], ReadKind::SymbolTable, 512),
-        (&[(496, 1)], ReadKind::SymbolTable, 496),
-        (&[(500, 0)], ReadKind::SymbolTable, 500),
-        (&[(500, 4)], ReadKind::SymbolTable, 500),
-        // the symbols
-        (&[(176, 8)], ReadKind::NameRange, 176),
-        (&[(176, 0)], ReadKind::NameRange, 176),
-        (&[(180, 2)], ReadKind::SymbolTable, 180),
-        (&[(500, 3)], ReadKind::SymbolTable, 180),
-        (&[(500, 1)], ReadKind::SymbolTable, 156),
-        (&[(180, 0x32)], ReadKind::Unsupported(Feature::Binding), 180),
-        (&[(180, 0x16)], ReadKind::Unsupported(Feature::Tls), 180),
-        (&[(180, 0x1a)], ReadKind::Unsupported(Feature::Ifunc), 180),
-        (
-            &[(180, 0x17)],
-            ReadKind::Unsupported(Feature::SymbolType),
-            180,
-        ),
-        (
-            &[(182, 0xff), (183, 0xff)],
-            ReadKind::Unsupported(Feature::Extended),
-            182,
-        ),
-        (&[(182, 7)], ReadKind::SymbolSection, 182),
-        (&[(182, 0), (183, 0xff)], ReadKind::SymbolSection, 182),
-        (&[(158, 0)], ReadKind::SymbolSection, 158),
-        (&[(182, 0xf2), (183, 0xff)], ReadKind::Align, 184),
-        (&[(184, 1), (187, 0x40)], ReadKind::SymbolSection, 184),
+        (&[(376, 3)], Align, 376),
+        (&[(376, 0), (378, 0x40)], Align, 376),
+        (&[(332, 8), (363, 0x40)], SectionRange, 360),
+    ];
+    assert_flaws(&rt, rt.alloc(), &rows);
+}
+
+#[test]
+fn tells_a_flaw_of_the_symbol_table(rt: HostRuntime) {
+    let rows: [Row; 7] = [
+        (&[(524, 2)], SymbolTable, 524),
+        (&[(488, 0)], SymbolTable, 488),
+        (&[(488, 71)], SymbolTable, 488),
+        (&[(512, 23)], SymbolTable, 512),
+        (&[(496, 1)], SymbolTable, 496),
+        (&[(500, 0)], SymbolTable, 500),
+        (&[(500, 4)], SymbolTable, 500),
+    ];
+    assert_flaws(&rt, rt.alloc(), &rows);
+}
+
+#[test]
+fn tells_a_flaw_of_a_symbol(rt: HostRuntime) {
+    let extended = Unsupported(Feature::Extended);
+    let rows: [Row; 16] = [
+        // the name, the order and the type
+        (&[(176, 8)], NameRange, 176),
+        (&[(176, 0)], NameRange, 176),
+        (&[(180, 2)], SymbolTable, 180),
+        (&[(500, 3)], SymbolTable, 180),
+        (&[(500, 1)], SymbolTable, 156),
+        (&[(180, 0x32)], Unsupported(Feature::Binding), 180),
+        (&[(180, 0x16)], Unsupported(Feature::Tls), 180),
+        (&[(180, 0x1a)], Unsupported(Feature::Ifunc), 180),
+        (&[(180, 0x17)], Unsupported(Feature::SymbolType), 180),
+        // the section, the value and the size
+        (&[(182, 0xff), (183, 0xff)], extended, 182),
+        (&[(182, 7)], SymbolSection, 182),
+        (&[(182, 0), (183, 0xff)], SymbolSection, 182),
+        (&[(158, 0)], SymbolSection, 158),
+        (&[(182, 0xf2), (183, 0xff)], Align, 184),
+        (&[(184, 1), (187, 0x40)], SymbolSection, 184),
         (
             &[(182, 0xf2), (183, 0xff), (184, 8), (195, 0x41)],
-            ReadKind::SymbolSection,
+            SymbolSection,
             192,
         ),
-        // the relocation entries
-        (&[(436, 7)], ReadKind::RelaLink, 436),
-        (&[(396, 9)], ReadKind::RelaKindForm, 396),
-        (&[(332, 8)], ReadKind::RelaLink, 436),
-        (&[(432, 4)], ReadKind::RelaLink, 432),
-        (&[(448, 16)], ReadKind::RelaLink, 448),
-        (&[(424, 47)], ReadKind::RelaLink, 424),
-        (&[(92, 3)], ReadKind::RelaLink, 88),
-        (&[(80, 13)], ReadKind::RelaPlace, 80),
-        (&[(87, 0xff)], ReadKind::RelaPlace, 80),
-        (&[(80, 5)], ReadKind::FieldOverlap, 104),
-        (&[(80, 12), (104, 5)], ReadKind::FieldOverlap, 104),
-        // the groups
-        (&[(680, 7)], ReadKind::GroupForm, 680),
-        (&[(680, 3)], ReadKind::GroupForm, 680),
-        (&[(688, 4)], ReadKind::GroupForm, 688),
-        (&[(692, 0)], ReadKind::GroupForm, 692),
-        (&[(692, 3)], ReadKind::GroupForm, 692),
-        (&[(256, 2)], ReadKind::GroupForm, 256),
-        (&[(260, 0)], ReadKind::GroupForm, 260),
-        (&[(260, 7)], ReadKind::GroupForm, 260),
-        (&[(260, 6)], ReadKind::GroupForm, 260),
-        (&[(680, 12), (264, 1)], ReadKind::GroupForm, 264),
     ];
-    for (changes, kind, at) in rows {
-        let read = read_object(rt.alloc(), &changed(changes));
-        assert_eq!(rt; read.err(), Some(ReadError::Flaw(ReadFault { kind, at })));
-    }
+    assert_flaws(&rt, rt.alloc(), &rows);
+}
+
+#[test]
+fn tells_a_flaw_of_a_relocation_section_or_entry(rt: HostRuntime) {
+    let rows: [Row; 11] = [
+        (&[(436, 7)], RelaLink, 436),
+        (&[(396, 9)], RelaKindForm, 396),
+        (&[(332, 8)], RelaLink, 436),
+        (&[(432, 4)], RelaLink, 432),
+        (&[(448, 16)], RelaLink, 448),
+        (&[(424, 47)], RelaLink, 424),
+        // the entries
+        (&[(92, 3)], RelaLink, 88),
+        (&[(80, 13)], RelaPlace, 80),
+        (&[(87, 0xff)], RelaPlace, 80),
+        (&[(80, 5)], FieldOverlap, 104),
+        (&[(80, 12), (104, 5)], FieldOverlap, 104),
+    ];
+    assert_flaws(&rt, rt.alloc(), &rows);
+}
+
+#[test]
+fn tells_a_flaw_of_a_group(rt: HostRuntime) {
+    let rows: [Row; 10] = [
+        (&[(680, 7)], GroupForm, 680),
+        (&[(680, 3)], GroupForm, 680),
+        (&[(688, 4)], GroupForm, 688),
+        (&[(692, 0)], GroupForm, 692),
+        (&[(692, 3)], GroupForm, 692),
+        (&[(256, 2)], GroupForm, 256),
+        // the members
+        (&[(260, 0)], GroupForm, 260),
+        (&[(260, 7)], GroupForm, 260),
+        (&[(260, 6)], GroupForm, 260),
+        (&[(680, 12), (264, 1)], GroupForm, 264),
+    ];
+    assert_flaws(&rt, rt.alloc(), &rows);
 }
 
 #[test]
@@ -371,153 +393,136 @@ fn not_one(kind: ReadKind, at: u64) -> Flaws {
     [flaw(kind, at), None, flaw(kind, at), flaw(kind, at)]
 }
 
+/// Storage of threads, as the flaw of the largest.
+fn tls(at: u64) -> Flaws {
+    [None, None, None, flaw(Unsupported(Feature::Tls), at)]
+}
+
+/// A flaw of 0, one of 1, and of the two large ones that the section passes the end of the file at `at`.
+fn range(zero: ReadKind, at_zero: u64, one: ReadKind, at_one: u64, at: u64) -> Flaws {
+    let past = flaw(SectionRange, at);
+    [flaw(zero, at_zero), flaw(one, at_one), past, past]
+}
+
+/// Asserts the flaws of fields of headers, each given by its place and width.
+fn assert_field_flaws(rt: &impl Abort, alloc: Global, rows: &[(usize, usize, Flaws)]) {
+    for (place, width, flaws) in rows {
+        assert!(rt; *place <= 704 && *width <= 8);
+        for (value, flaw) in [0, 1, 712, u64::MAX].iter().zip(flaws) {
+            let mut bytes = OBJECT;
+            bytes[*place..*place + *width].copy_from_slice(&value.to_le_bytes()[..*width]);
+            let read = read_object(alloc, &bytes);
+            assert_eq!(rt; read.err(), flaw.map(ReadError::Flaw));
+        }
+    }
+}
+
 #[test]
-fn tells_a_header_field_that_is_off(rt: HostRuntime) {
-    let extended = ReadKind::Unsupported(Feature::Extended);
-    let table = |at: u64| flaw(ReadKind::SectionTable, at);
-    let tls = |at: u64| [
-        None,
-        None,
-        None,
-        flaw(ReadKind::Unsupported(Feature::Tls), at),
-    ];
-    // two flaws of the small ones, and one of the large ones
-    let range = |zero: ReadKind, at_zero: u64, one: ReadKind, at_one: u64, at: u64| {
-        let past = flaw(ReadKind::SectionRange, at);
-        [flaw(zero, at_zero), flaw(one, at_one), past, past]
-    };
+fn tells_a_field_of_the_file_header_that_is_off(rt: HostRuntime) {
+    let extended = Unsupported(Feature::Extended);
+    let table = |at: u64| flaw(SectionTable, at);
     let rows = [
-        // the file header
-        (16, 2, not_one(ReadKind::Head(HeadFault::FileType), 16)),
-        (18, 2, any(ReadKind::Head(HeadFault::Machine), 18)),
-        (20, 4, not_one(ReadKind::Head(HeadFault::FileVersion), 20)),
+        (16, 2, not_one(Head(HeadFault::FileType), 16)),
+        (18, 2, any(Head(HeadFault::Machine), 18)),
+        (20, 4, not_one(Head(HeadFault::FileVersion), 20)),
         (24, 8, [None; 4]),
         (32, 8, [None; 4]),
         (40, 8, [table(62), table(62), table(40), table(40)]),
         (48, 4, [None; 4]),
-        (52, 2, any(ReadKind::Head(HeadFault::HeadSize), 52)),
+        (52, 2, any(Head(HeadFault::HeadSize), 52)),
         (54, 2, [None; 4]),
         (56, 2, [None; 4]),
-        (58, 2, any(ReadKind::Head(HeadFault::SectionSize), 58)),
+        (58, 2, any(Head(HeadFault::SectionSize), 58)),
         (60, 2, [flaw(extended, 60), table(62), table(40), table(40)]),
         (62, 2, [table(62), table(62), table(62), flaw(extended, 62)]),
-        // section 0
+    ];
+    assert_field_flaws(&rt, rt.alloc(), &rows);
+}
+
+#[test]
+fn reads_any_values_in_the_header_of_section_0(rt: HostRuntime) {
+    let rows = [
         (268, 4, [None; 4]),
         (272, 8, [None; 4]),
         (288, 8, [None; 4]),
         (296, 8, [None; 4]),
-        // .text
-        (328, 4, large(ReadKind::NameRange, 328)),
-        (
-            332,
-            4,
-            not_one(ReadKind::Unsupported(Feature::SectionType), 332),
-        ),
+    ];
+    assert_field_flaws(&rt, rt.alloc(), &rows);
+}
+
+#[test]
+fn tells_a_field_of_the_header_of_text_that_is_off(rt: HostRuntime) {
+    let rows = [
+        (328, 4, large(NameRange, 328)),
+        (332, 4, not_one(Unsupported(Feature::SectionType), 332)),
         (336, 8, tls(336)),
         (344, 8, [None; 4]),
-        (352, 8, large(ReadKind::SectionRange, 352)),
-        (
-            360,
-            8,
-            range(ReadKind::RelaPlace, 80, ReadKind::RelaPlace, 80, 352),
-        ),
+        (352, 8, large(SectionRange, 352)),
+        (360, 8, range(RelaPlace, 80, RelaPlace, 80, 352)),
         (368, 4, [None; 4]),
         (372, 4, [None; 4]),
-        (376, 8, large(ReadKind::Align, 376)),
+        (376, 8, large(Align, 376)),
         (384, 8, [None; 4]),
-        // .rela.text
-        (392, 4, large(ReadKind::NameRange, 392)),
+    ];
+    assert_field_flaws(&rt, rt.alloc(), &rows);
+}
+
+#[test]
+fn tells_a_field_of_the_header_of_relocations_that_is_off(rt: HostRuntime) {
+    let past = flaw(SectionRange, 416);
+    let rows = [
+        (392, 4, large(NameRange, 392)),
         (396, 4, [None; 4]),
         (400, 8, tls(400)),
-        (
-            416,
-            8,
-            range(ReadKind::RelaPlace, 0, ReadKind::RelaLink, 9, 416),
-        ),
-        (
-            424,
-            8,
-            [
-                None,
-                flaw(ReadKind::RelaLink, 424),
-                flaw(ReadKind::SectionRange, 416),
-                flaw(ReadKind::SectionRange, 416),
-            ],
-        ),
-        (432, 4, any(ReadKind::RelaLink, 432)),
-        (436, 4, large(ReadKind::RelaLink, 436)),
-        (448, 8, any(ReadKind::RelaLink, 448)),
-        // .symtab
-        (456, 4, large(ReadKind::NameRange, 456)),
-        (460, 4, any(ReadKind::RelaLink, 432)),
-        (464, 8, tls(464)),
-        (
-            480,
-            8,
-            range(
-                ReadKind::SymbolSection,
-                30,
-                ReadKind::SymbolSection,
-                31,
-                480,
-            ),
-        ),
-        (
-            488,
-            8,
-            range(ReadKind::SymbolTable, 488, ReadKind::SymbolTable, 488, 480),
-        ),
-        (496, 4, any(ReadKind::SymbolTable, 496)),
-        (
-            500,
-            4,
-            [
-                flaw(ReadKind::SymbolTable, 500),
-                flaw(ReadKind::SymbolTable, 156),
-                flaw(ReadKind::SymbolTable, 500),
-                flaw(ReadKind::SymbolTable, 500),
-            ],
-        ),
-        (512, 8, any(ReadKind::SymbolTable, 512)),
-        // .strtab
-        (520, 4, large(ReadKind::NameRange, 520)),
-        (524, 4, any(ReadKind::SymbolTable, 496)),
-        (544, 8, large(ReadKind::SectionRange, 544)),
-        (
-            552,
-            8,
-            range(ReadKind::NameRange, 152, ReadKind::NameRange, 176, 544),
-        ),
-        // .shstrtab
-        (588, 4, any(ReadKind::SectionTable, 62)),
-        (608, 8, large(ReadKind::SectionRange, 608)),
-        (
-            616,
-            8,
-            range(ReadKind::NameRange, 328, ReadKind::NameRange, 328, 608),
-        ),
-        // .group
-        (652, 4, [None; 4]),
-        (
-            672,
-            8,
-            range(ReadKind::GroupForm, 0, ReadKind::GroupForm, 1, 672),
-        ),
-        (
-            680,
-            8,
-            range(ReadKind::GroupForm, 680, ReadKind::GroupForm, 680, 672),
-        ),
-        (688, 4, any(ReadKind::GroupForm, 688)),
-        (692, 4, not_one(ReadKind::GroupForm, 692)),
+        (416, 8, range(RelaPlace, 0, RelaLink, 9, 416)),
+        (424, 8, [None, flaw(RelaLink, 424), past, past]),
+        (432, 4, any(RelaLink, 432)),
+        (436, 4, large(RelaLink, 436)),
+        (448, 8, any(RelaLink, 448)),
     ];
-    for (place, width, flaws) in rows {
-        assert!(rt; place <= 704 && width <= 8);
-        for (value, flaw) in [0, 1, 712, u64::MAX].iter().zip(flaws) {
-            let mut bytes = OBJECT;
-            bytes[place..place + width].copy_from_slice(&value.to_le_bytes()[..width]);
-            let read = read_object(rt.alloc(), &bytes);
-            assert_eq!(rt; read.err(), flaw.map(ReadError::Flaw));
-        }
-    }
+    assert_field_flaws(&rt, rt.alloc(), &rows);
+}
+
+#[test]
+fn tells_a_field_of_the_header_of_symbols_that_is_off(rt: HostRuntime) {
+    let locals = flaw(SymbolTable, 500);
+    let rows = [
+        (456, 4, large(NameRange, 456)),
+        (460, 4, any(RelaLink, 432)),
+        (464, 8, tls(464)),
+        (480, 8, range(SymbolSection, 30, SymbolSection, 31, 480)),
+        (488, 8, range(SymbolTable, 488, SymbolTable, 488, 480)),
+        (496, 4, any(SymbolTable, 496)),
+        (500, 4, [locals, flaw(SymbolTable, 156), locals, locals]),
+        (512, 8, any(SymbolTable, 512)),
+    ];
+    assert_field_flaws(&rt, rt.alloc(), &rows);
+}
+
+#[test]
+fn tells_a_field_of_the_headers_of_string_tables_that_is_off(rt: HostRuntime) {
+    let rows = [
+        // .strtab
+        (520, 4, large(NameRange, 520)),
+        (524, 4, any(SymbolTable, 496)),
+        (544, 8, large(SectionRange, 544)),
+        (552, 8, range(NameRange, 152, NameRange, 176, 544)),
+        // .shstrtab
+        (588, 4, any(SectionTable, 62)),
+        (608, 8, large(SectionRange, 608)),
+        (616, 8, range(NameRange, 328, NameRange, 328, 608)),
+    ];
+    assert_field_flaws(&rt, rt.alloc(), &rows);
+}
+
+#[test]
+fn tells_a_field_of_the_header_of_a_group_that_is_off(rt: HostRuntime) {
+    let rows = [
+        (652, 4, [None; 4]),
+        (672, 8, range(GroupForm, 0, GroupForm, 1, 672)),
+        (680, 8, range(GroupForm, 680, GroupForm, 680, 672)),
+        (688, 4, any(GroupForm, 688)),
+        (692, 4, not_one(GroupForm, 692)),
+    ];
+    assert_field_flaws(&rt, rt.alloc(), &rows);
 }
