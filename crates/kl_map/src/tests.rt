@@ -1,46 +1,37 @@
 use crate::{Map, print_map};
 use kl_base::{Class, Name};
 use kl_model::{AreaAt, Areas, PieceId, Placed, PlacedList, Placement};
+use std::alloc::Global;
 use std::test::Fail;
 
 const BASE: u64 = 0xffff_ffff_8100_0000;
 
-fn empty_at(address: u64) -> AreaAt {
-    AreaAt {
-        start: address,
-        end: address,
-    }
+fn area(start: u64, end: u64) -> AreaAt {
+    AreaAt { start, end }
 }
 
-#[test]
-fn prints_one_piece(rt: HostRuntime) -> Result<(), Fail> {
-    let alloc = rt.alloc();
-    let mut areas = [empty_at(BASE + 0x1000); 15];
-    areas[0] = AreaAt {
-        start: BASE,
-        end: BASE + 3,
-    };
-    areas[4] = empty_at(BASE + 3);
-    areas[5] = empty_at(BASE + 3);
-    areas[6] = empty_at(BASE + 3);
-    let piece = Placed {
-        id: PieceId::Section {
-            input: 0,
-            section: 1,
-        },
-        address: BASE,
-        size: 3,
-    };
-    let map = Map {
-        output: Name::from_bytes(b"/bsd")?,
-        seed: [0; 32],
-        placement: Placement {
-            base: BASE,
-            areas: Areas::from_vec(Vec::from_slice(alloc, &areas)?),
-            pieces: PlacedList::from_vec(Vec::from_slice(alloc, &[piece])?),
-        },
-    };
-    let expected = "\
+fn empty_at(address: u64) -> AreaAt {
+    area(address, address)
+}
+
+fn placed(id: PieceId, address: u64, size: u64) -> Placed {
+    Placed { id, address, size }
+}
+
+fn placement(
+    alloc: Global,
+    base: u64,
+    areas: &[AreaAt],
+    pieces: &[Placed],
+) -> Result<Placement, Fail> {
+    Ok(Placement {
+        base,
+        areas: Areas::from_vec(Vec::from_slice(alloc, areas)?),
+        pieces: PlacedList::from_vec(Vec::from_slice(alloc, pieces)?),
+    })
+}
+
+const ONE_PIECE: &str = "\
 relink map 1
 output /bsd
 seed 0000000000000000000000000000000000000000000000000000000000000000
@@ -63,54 +54,29 @@ area dynamic 0xffffffff81001000 0xffffffff81001000
 piece 0 1 0xffffffff81000000 0x0000000000000003
 end
 ";
-    assert_eq!(rt; print_map(alloc, &map)?.as_slice(), expected.as_bytes());
+
+#[test]
+fn prints_one_piece(rt: HostRuntime) -> Result<(), Fail> {
+    let alloc = rt.alloc();
+    let mut areas = [empty_at(BASE + 0x1000); 15];
+    areas[0] = area(BASE, BASE + 3);
+    areas[4] = empty_at(BASE + 3);
+    areas[5] = empty_at(BASE + 3);
+    areas[6] = empty_at(BASE + 3);
+    let section = PieceId::Section {
+        input: 0,
+        section: 1,
+    };
+    let map = Map {
+        output: Name::from_bytes(b"/bsd")?,
+        seed: [0; 32],
+        placement: placement(alloc, BASE, &areas, &[placed(section, BASE, 3)])?,
+    };
+    assert_eq!(rt; print_map(alloc, &map)?.as_slice(), ONE_PIECE.as_bytes());
     Ok(())
 }
 
-#[test]
-fn prints_a_run_a_common_and_gaps(rt: HostRuntime) -> Result<(), Fail> {
-    let alloc = rt.alloc();
-    let mut areas = [empty_at(0x1000); 26];
-    areas[15] = AreaAt {
-        start: 0x2000,
-        end: 0x2028,
-    };
-    areas[25] = AreaAt {
-        start: 0xfedc_ba98_7654_3210,
-        end: 0,
-    };
-    let ids = [
-        PieceId::Section {
-            input: 12,
-            section: 4_294_967_295,
-        },
-        PieceId::Common(0),
-        PieceId::Gap(Class::Text),
-        PieceId::Gap(Class::Rodata),
-        PieceId::Gap(Class::Rwdata),
-        PieceId::Gap(Class::Bss),
-    ];
-    let sizes = [40, 4, 16, 32, 48, 262_144];
-    let mut pieces = Vec::new(alloc);
-    for (id, size) in ids.iter().zip(&sizes) {
-        pieces.push(Placed {
-            id: *id,
-            address: 0x3000,
-            size: *size,
-        })?;
-    }
-    let mut seed = [0xab; 32];
-    seed[0] = 0x01;
-    let map = Map {
-        output: Name::from_bytes(b"/usr/lib/libc.so.97.0")?,
-        seed,
-        placement: Placement {
-            base: 0,
-            areas: Areas::from_vec(Vec::from_slice(alloc, &areas)?),
-            pieces: PlacedList::from_vec(pieces),
-        },
-    };
-    let expected = "\
+const RUN_COMMON_AND_GAPS: &str = "\
 relink map 1
 output /usr/lib/libc.so.97.0
 seed 01ababababababababababababababababababababababababababababababab
@@ -149,6 +115,35 @@ gap data 0x0000000000003000 0x0000000000000030
 gap bss 0x0000000000003000 0x0000000000040000
 end
 ";
-    assert_eq!(rt; print_map(alloc, &map)?.as_slice(), expected.as_bytes());
+
+#[test]
+fn prints_a_run_a_common_and_gaps(rt: HostRuntime) -> Result<(), Fail> {
+    let alloc = rt.alloc();
+    let mut areas = [empty_at(0x1000); 26];
+    areas[15] = area(0x2000, 0x2028);
+    areas[25] = area(0xfedc_ba98_7654_3210, 0);
+    let section = PieceId::Section {
+        input: 12,
+        section: 4_294_967_295,
+    };
+    let pieces = [
+        placed(section, 0x3000, 40),
+        placed(PieceId::Common(0), 0x3000, 4),
+        placed(PieceId::Gap(Class::Text), 0x3000, 16),
+        placed(PieceId::Gap(Class::Rodata), 0x3000, 32),
+        placed(PieceId::Gap(Class::Rwdata), 0x3000, 48),
+        placed(PieceId::Gap(Class::Bss), 0x3000, 262_144),
+    ];
+    let mut seed = [0xab; 32];
+    seed[0] = 0x01;
+    let map = Map {
+        output: Name::from_bytes(b"/usr/lib/libc.so.97.0")?,
+        seed,
+        placement: placement(alloc, 0, &areas, &pieces)?,
+    };
+    assert_eq!(rt;
+        print_map(alloc, &map)?.as_slice(),
+        RUN_COMMON_AND_GAPS.as_bytes()
+    );
     Ok(())
 }
