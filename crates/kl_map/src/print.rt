@@ -32,8 +32,8 @@ const AREA_NAMES: [&str; 15] = [
     "dynamic",
 ];
 
-/// The text of a map: a line for each area by number, then one for each piece, common and gap in the placement's order.
-/// The map keeps what `one_spelling` asks of it. The only error is want of memory.
+/// The text of a map: its head, a line for each area by number, one for each piece, common and gap in the placement's order,
+/// and `end`. The map keeps what `one_spelling` asks of it. The only error is want of memory.
 #[tactic(auto, unfolding(crate::specs::MapText::map_text))]
 pub fn print_map(alloc: Global, map: &Map) -> Result<Vec<u8>, NoMemory>
     ensures text { IfOk result (λ text. text.items ≡ map_text map.now) }
