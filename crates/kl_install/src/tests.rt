@@ -86,8 +86,7 @@ fn stopped(alloc: Global, calls: u64) -> Result<(MemStore, bool), Fail> {
 }
 
 /// Whether the files are new after recovery of the store. They are never mixed, and the slot is free then.
-fn is_new_after(alloc: Global, store: &mut MemStore) -> Result<bool, Fail> {
-    let mut installer = Installer::new(alloc, Slot::Kernel)?;
+fn is_new_after(installer: &mut Installer, store: &mut MemStore) -> Result<bool, Fail> {
     installer.recover(store)?;
     if !installer.is_ready() || store.get(&slot_name(Slot::Kernel)).is_some() {
         return Err(Fail::from("a free slot"));
@@ -105,6 +104,12 @@ const CALLS: u64 = 23;
 
 const INTENT: u64 = 15;
 
+/// The changes that aren't settled behind so many calls, from none on. With n of them a crash has n + 1 picks
+/// for those that it carries out, and for each four for the bytes that weren't settled.
+const PENDING: [u8; 24] = [
+    0, 0, 0, 0, 1, 2, 2, 2, 3, 4, 4, 5, 6, 7, 8, 0, 1, 0, 1, 2, 3, 0, 1, 0,
+];
+
 /// Whether the files are new after a stop behind so many calls, and the crash of that pick. The intent's
 /// name is one change that isn't settled yet behind its call, so the pick decides then.
 fn is_to_be_new(calls: u64, pick: u64) -> bool {
@@ -117,13 +122,14 @@ fn is_to_be_new(calls: u64, pick: u64) -> bool {
 #[test]
 fn recovers_after_each_stop(rt: HostRuntime) -> Result<(), Fail> {
     let alloc = rt.alloc();
+    let mut installer = Installer::new(alloc, Slot::Kernel)?;
     for calls in 0..CALLS + 1 {
         let (store, done) = stopped(alloc, calls)?;
         assert_eq!(rt; done, calls == CALLS, "behind {calls} calls");
-        for pick in 0..24 {
+        for pick in 0..4 * (u64::from(PENDING[calls as usize]) + 1) {
             let mut image = store.crash(alloc, pick)?;
             assert_eq!(rt;
-                is_new_after(alloc, &mut image)?,
+                is_new_after(&mut installer, &mut image)?,
                 is_to_be_new(calls, pick),
                 "behind {calls} calls, pick {pick}"
             );
@@ -132,25 +138,48 @@ fn recovers_after_each_stop(rt: HostRuntime) -> Result<(), Fail> {
     Ok(())
 }
 
+/// The longest recovery of a batch of three files has fewer calls. It has at most three changes that aren't settled, none
+/// of which appends.
+const RECOVERY: u64 = 24;
+
+/// Recovery of the image is stopped behind so many calls, and then made again after each crash: the files are new
+/// as they are to be. Whether it came to its end.
+fn recovers_again(
+    alloc: Global,
+    installer: &mut Installer,
+    image: MemStore,
+    calls: u64,
+    new: bool,
+) -> Result<bool, Fail> {
+    let mut fuse = Fuse::new(image, calls);
+    let ended = installer.recover(&mut fuse).is_ok();
+    let store = fuse.into_inner();
+    for pick in 0..4 {
+        let mut image = store.crash(alloc, pick)?;
+        if is_new_after(installer, &mut image)? != new {
+            return Err(Fail::from("files as they are to be"));
+        }
+    }
+    Ok(ended)
+}
+
 #[test]
 fn recovers_after_stopped_recovery(rt: HostRuntime) -> Result<(), Fail> {
     let alloc = rt.alloc();
-    for calls in INTENT..INTENT + 3 {
+    let mut installer = Installer::new(alloc, Slot::Kernel)?;
+    for calls in INTENT..CALLS + 1 {
         let (store, _) = stopped(alloc, calls)?;
-        for pick in 0..2 {
-            for more in 0..16 {
-                let mut installer = Installer::new(alloc, Slot::Kernel)?;
-                let mut fuse = Fuse::new(store.crash(alloc, pick)?, more);
-                let _ = installer.recover(&mut fuse);
-                let again = fuse.into_inner();
-                for last in 0..2 {
-                    assert_eq!(rt;
-                        is_new_after(alloc, &mut again.crash(alloc, last)?)?,
-                        is_to_be_new(calls, pick),
-                        "behind {calls} and {more} calls, picks {pick} and {last}"
-                    );
+        for pick in 0..u64::from(PENDING[calls as usize]) + 1 {
+            let new = is_to_be_new(calls, pick);
+            let mut ended = false;
+            for more in 0..RECOVERY {
+                let image = store.crash(alloc, pick)?;
+                ended = recovers_again(alloc, &mut installer, image, more, new)?;
+                if ended {
+                    break;
                 }
             }
+            assert!(rt; ended, "behind {calls} calls, pick {pick}");
         }
     }
     Ok(())
@@ -169,7 +198,7 @@ fn recovers_after_each_failure(rt: HostRuntime) -> Result<(), Fail> {
             assert!(rt; !installer.is_ready());
             let new = call > INTENT || (call == INTENT && happened);
             assert_eq!(rt;
-                is_new_after(alloc, &mut store)?,
+                is_new_after(&mut installer, &mut store)?,
                 new,
                 "call {call}, {happened}"
             );
