@@ -21,7 +21,7 @@ none_wrong : (b : Bool) (n : ℕ) (rest : Option ℕ) → cond b rest (Some n) �
 none_wrong true n rest e = (refl, e)
 none_wrong false n rest e = some_none n e
 
-all_digits : (ds : List ℕ) (n : ℕ) → digit_place ds n ≡ None → list_all is_hex_digit ds ≡ true
+pub all_digits : (ds : List ℕ) (n : ℕ) → digit_place ds n ≡ None → list_all is_hex_digit ds ≡ true
 all_digits [] n e = refl
 all_digits (d ∷ ds) n e = let split = none_wrong (is_hex_digit d) n (digit_place ds (n + 1)) e in ap (λ v. v && list_all is_hex_digit ds) split.0 ∙ all_digits ds (n + 1) split.1
 
@@ -42,7 +42,7 @@ text_step ps bs i n less lesser =
     ∙ ap (λ (k : ℕ). cond (get_or ps i 0 == get_or bs i 0) (text_place (drop k ps) (drop k bs) (n + 1)) (Some n)) (sym (add-one i))
 
 -- bytes whose text isn't wrong begin with it
-text_whole : (ps bs : List ℕ) (n : ℕ) → text_place ps bs n ≡ None → bs ≡ ps ++ drop (length ps) bs
+pub text_whole : (ps bs : List ℕ) (n : ℕ) → text_place ps bs n ≡ None → bs ≡ ps ++ drop (length ps) bs
 text_whole [] bs n e = refl
 text_whole (p ∷ ps) [] n e = some_none n e
 text_whole (p ∷ ps) (b ∷ bs) n e =
@@ -89,18 +89,18 @@ tail_of (b ∷ []) size end = inr (ap (λ (c : ℕ). c ∷ []) (eqb-true b 10 en
 tail_of (b ∷ c ∷ rest) (inl size) end = absurd (omega (arith, size))
 tail_of (b ∷ c ∷ rest) (inr size) end = absurd (omega (arith, size))
 
-rest_size : (bytes : List ℕ) → (length bytes ≡ 80) ⊎ (length bytes ≡ 81) → (length (drop 80 bytes) ≡ 0) ⊎ (length (drop 80 bytes) ≡ 1)
+pub rest_size : (bytes : List ℕ) → (length bytes ≡ 80) ⊎ (length bytes ≡ 81) → (length (drop 80 bytes) ≡ 0) ⊎ (length (drop 80 bytes) ≡ 1)
 rest_size bytes (inl size) = inl (omega (arith, size, length-drop 80 bytes))
 rest_size bytes (inr size) = inr (omega (arith, size, length-drop 80 bytes))
 
-long_enough : (bytes : List ℕ) → (length bytes ≡ 80) ⊎ (length bytes ≡ 81) → 80 ≤ length bytes
+pub long_enough : (bytes : List ℕ) → (length bytes ≡ 80) ⊎ (length bytes ≡ 81) → 80 ≤ length bytes
 long_enough bytes (inl size) = omega (arith, size)
 long_enough bytes (inr size) = omega (arith, size)
 
 pub digits_size : (bytes : List ℕ) → IsClean bytes → length (take 64 (drop 16 bytes)) ≡ 64
 digits_size bytes is = let long = long_enough bytes is.size in omega (arith, long, length-take 64 (drop 16 bytes), length-drop 16 bytes)
 
-parts : (bytes : List ℕ) → text_place record_prefix bytes 0 ≡ None → bytes ≡ record_prefix ++ take 64 (drop 16 bytes) ++ drop 80 bytes
+pub parts : (bytes : List ℕ) → text_place record_prefix bytes 0 ≡ None → bytes ≡ record_prefix ++ take 64 (drop 16 bytes) ++ drop 80 bytes
 parts bytes text = text_whole record_prefix bytes 0 text ∙ ap (λ (l : List ℕ). record_prefix ++ l) (sym (take-append-drop 64 (drop 16 bytes)) ∙ ap (λ (l : List ℕ). take 64 (drop 16 bytes) ++ l) (drop-drop 64 16 bytes))
 
 pub is_record : (bytes digest : List ℕ) → record_fault bytes ≡ None → decode_of (take 64 (drop 16 bytes)) ≡ Ok digest → IsRecord digest bytes

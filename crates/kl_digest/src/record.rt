@@ -2,6 +2,7 @@
 ghost use Rattle.std.specs.Prelude.{◌≡◌, ◌≤◌, ◌+◌, ◌==◌, ◌||◌, ℕ, List, length, take, drop, true, false, None, Some, Ok, IfOk, IfErr, OnOk, OnErr};
 ghost use Rattle.hex.specs.Hex.{is_hex_digit, decode_of};
 ghost use Rattle.kl_digest.specs.Records.{record_prefix, record_of, IsRecord, record_fault, text_place, digit_place, is_end, content_fault};
+ghost use Rattle.kl_digest.specs.RecordFaults.{IsFirstFault};
 
 /// Why bytes are no record. Of several the first of these is answered.
 #[derive(Clone, Copy, Debug, PartialEq, Eq)]
@@ -34,6 +35,9 @@ pub fn read_record(bytes: &[u8]) -> Result<[u8; 32], RecordFault>
     ensures ok { IfOk result (λ digest. IsRecord digest bytes.now) }
     ensures none { OnOk result (record_fault bytes.now ≡ None) }
     ensures fault { IfErr result (λ f. record_fault bytes.now ≡ Some f) }
+
+    // What stands before the fault is right.
+    ensures first { IfErr result (IsFirstFault bytes.now) }
 
     // No record is refused, and each has one digest.
     ensures refused { OnErr result ((digest : List ℕ) → ¬ IsRecord digest bytes.now) }
