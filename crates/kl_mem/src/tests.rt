@@ -71,16 +71,33 @@ fn has_images(store: &MemStore, alloc: Global, cases: &[(u64, Held, Held)]) -> R
 }
 
 #[test]
-fn leaves_the_picked_image(rt: HostRuntime) -> Result<(), Fail> {
-    let (a, b) = (named(b"/a")?, named(b"/b")?);
+fn leaves_stable_files(rt: HostRuntime) -> Result<(), Fail> {
     let old: Held = Some(b"old");
     let mut store = MemStore::new(rt.alloc());
-    store.put(&a, b"old")?;
+    store.put(&named(b"/a")?, b"old")?;
     assert!(rt; has_images(&store, rt.alloc(), &[(0, old, None), (3, old, None)])?);
+    Ok(())
+}
+
+/// A store with a stable file under `/a`, in whose place three changes put a new one: it is created
+/// under `/b`, gets its bytes, and is renamed.
+fn with_a_replacement(alloc: Global) -> Result<MemStore, Fail> {
+    let (a, b) = (named(b"/a")?, named(b"/b")?);
+    if a == b {
+        return Err(Fail::from("the names are one"));
+    }
+    let mut store = MemStore::new(alloc);
+    store.put(&a, b"old")?;
     store.create(&b)?;
     store.append(&b, b"wxyz")?;
-    assert_ne!(rt; b, a);
     store.rename(&b, &a)?;
+    Ok(store)
+}
+
+#[test]
+fn leaves_the_picked_image(rt: HostRuntime) -> Result<(), Fail> {
+    let old: Held = Some(b"old");
+    let store = with_a_replacement(rt.alloc())?;
     // Three changes are pending: the first pick mod 4 of them are carried out.
     let cases: [(u64, Held, Held); 12] = [
         (0, old, None),
@@ -97,10 +114,24 @@ fn leaves_the_picked_image(rt: HostRuntime) -> Result<(), Fail> {
         (15, Some(b"\x88\x87\x86\x85"), None),
     ];
     assert!(rt; has_images(&store, rt.alloc(), &cases)?);
-    store.settle()?;
+    Ok(())
+}
+
+#[test]
+fn leaves_settled_changes(rt: HostRuntime) -> Result<(), Fail> {
     let new: Held = Some(b"wxyz");
+    let mut store = with_a_replacement(rt.alloc())?;
+    store.settle()?;
     assert!(rt; has_images(&store, rt.alloc(), &[(0, new, None), (7, new, None)])?);
-    store.append(&a, b"!")?;
+    Ok(())
+}
+
+#[test]
+fn loses_bytes_of_a_file_that_grew(rt: HostRuntime) -> Result<(), Fail> {
+    let new: Held = Some(b"wxyz");
+    let mut store = with_a_replacement(rt.alloc())?;
+    store.settle()?;
+    store.append(&named(b"/a")?, b"!")?;
     // A file that was stable may lose its bytes too, once some are added to it.
     let cases: [(u64, Held, Held); 6] = [
         (0, Some(b""), None),
