@@ -9,6 +9,10 @@ use Rattle.kl_store.specs.Counts.{raised}
 abbrev pub blocks_left : ListEntropy → List (List ℕ)
 blocks_left s = drop s.next s.blocks.items
 
+-- how many of its calls have failed
+abbrev pub blocks_failed : ListEntropy → ℕ
+blocks_failed s = s.faults
+
 -- what it tells
 abbrev pub blocks_told : ListEntropy → Blocks
 blocks_told s = record { left = Some (blocks_left s) }
@@ -37,9 +41,14 @@ abbrev pub is_to_fail : Option ℕ → ℕ → Bool
 is_to_fail None call = false
 is_to_fail (Some first) call = nat_le first call
 
--- a write fails exactly where it is to fail, or for want of memory
+-- whether the next call is to fail
+abbrev pub is_next_to_fail : Kept → Bool
+is_next_to_fail k = is_to_fail k.fails_from k.calls
+
+-- a write fails exactly where it is to fail, or, where it isn't, for want of memory
 abbrev pub FailsFor : {T E : Type 0} → Kept → Kept → Result T E → Type 0
-FailsFor before now result = ((is_err result ≡ is_to_fail before.fails_from before.calls) × (now.starved ≡ before.starved)) ⊎ ((is_err result ≡ true) × (now.starved ≡ raised before.starved))
+FailsFor before now result = ((is_err result ≡ is_next_to_fail before) × (now.starved ≡ before.starved))
+    ⊎ ((is_err result ≡ true) × (is_next_to_fail before ≡ false) × (now.starved ≡ raised before.starved))
 
 -- how a write to a sink in memory ends; a failed one takes no byte
 pub record WriteEnds {T E : Type 0} (before now : Kept) (result : Result T E) : Type 0 where

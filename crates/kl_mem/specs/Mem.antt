@@ -111,11 +111,12 @@ pub record SettlesAsPlanned {T E : Type 0} (before now : Mem) (result : Result T
   pub done : OnOk result (Turns settled before now)
   pub kept : OnErr result (Rests before now)
 
--- a settle that finds no memory for its entry
+-- a settle that isn't planned to fail, and finds no memory for its entry
 pub record SettlesStarved {T E : Type 0} (before now : Mem) (result : Result T E) : Type 0 where
   pub fails : is_err result ≡ true
   pub starved : now.starved ≡ raised before.starved
   pub rests : Rests before now
+  pub wanted : next_fault before ≡ None
 
 -- how a settle ends
 pub record SettleEnds {T E : Type 0} (before now : Mem) (result : Result T E) : Type 0 where

@@ -2,7 +2,8 @@
 ghost use Rattle.std.specs.Prelude.{◌≡◌, ◌≢◌, ◌≤◌, ◌<◌, ◌-◌, ℕ, length, option_map, IfOk, true, false};
 ghost use Rattle.kl_store.specs.Names.{Create, Append, Rename, Remove};
 ghost use Rattle.kl_store.specs.Calls.{Rose, HasCause, Stays, Does, DoesIf, Settles, Holds, Reads};
-ghost use Rattle.kl_mem.specs.Fuses.{Burns, passes, inner_of};
+ghost use Rattle.kl_store.specs.Counts.{raised};
+ghost use Rattle.kl_mem.specs.Fuses.{Burns, passes, inner_of, failed};
 
 use kl_base::Name;
 use kl_store::{Failed, Store};
@@ -20,6 +21,7 @@ impl<S: Store> Fuse<S> {
     pub fn new(inner: S, calls: u64) -> Self
         ensures inner { inner_of result ≡ inner }
         ensures calls { passes result ≡ calls }
+        ensures faults { failed result ≡ 0 }
     {
         Fuse {
             inner,
@@ -50,6 +52,7 @@ impl<S: Store> Fuse<S> {
     fn fail(&mut self) -> Failed
         ensures inner { self.new.inner ≡ self.old.inner }
         ensures left { self.new.left ≡ self.old.left }
+        ensures faults { self.new.faults ≡ raised self.old.faults }
         ensures later { self.old.faults ≤ self.new.faults }
         ensures rose { Rose self.old.faults self.new.faults }
     {

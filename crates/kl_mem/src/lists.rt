@@ -16,11 +16,12 @@ pub struct ListEntropy {
 }
 
 impl ListEntropy {
-    ghost use Rattle.kl_mem.specs.Lists.{blocks_left};
+    ghost use Rattle.kl_mem.specs.Lists.{blocks_left, blocks_failed};
 
     /// A source of these blocks, the first of them first.
     pub fn new(blocks: Vec<[u8; 32]>) -> Self
-        ensures { blocks_left result ≡ blocks.items }
+        ensures blocks { blocks_left result ≡ blocks.items }
+        ensures faults { blocks_failed result ≡ 0 }
     {
         ListEntropy {
             blocks,
@@ -41,6 +42,7 @@ impl Entropy for ListEntropy {
         ensures fills { Fills (blocks_told self.old) (blocks_told self.new) out.new result }
         ensures cause { HasCause self.old.faults self.new.faults result }
         ensures fails { IsErr result ↔ (blocks_left self.old ≡ []) }
+        ensures faults { self.new.faults ≡ (if is_err result then raised self.old.faults else self.old.faults) }
     {
         if self.next >= self.blocks.len() {
             self.faults = self.faults.saturating_add(1);
