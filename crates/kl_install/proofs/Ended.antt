@@ -12,11 +12,15 @@ use Rattle.kl_store.proofs.NameMaps.{get-removed, same_refl, same_apart}
 use Rattle.kl_store.proofs.Branches.{cond_true, cond_false}
 use Rattle.kl_store.proofs.Disks.{some_or}
 use Rattle.kl_intent.specs.declared.intent.Entry.{Entry}
-use Rattle.kl_intent.specs.IntentText.{slot_name, intent_text, intent_read}
+use Rattle.kl_intent.specs.IntentText.{slot_name, intent_text, intent_read, entries_of}
 use Rattle.kl_intent.proofs.Cuts.{and_left, and_right}
 use Rattle.kl_intent.proofs.Grammar.{intent_again, intent_from}
 use Rattle.kl_intent.proofs.Outside.{outside, too_long}
+use Rattle.kl_intent.specs.declared.intent.Intent.{Intent}
+use Rattle.kl_install.specs.declared.recover.Found.{Found}
+use Rattle.kl_install.specs.declared.recover.Found.TheVariants.{Batch}
 use Rattle.kl_install.specs.declared.recover.SlotEnd.{SlotEnd}
+use Rattle.kl_install.specs.Finding.{IsFound}
 use Rattle.kl_install.specs.declared.recover.Unsound.{Unsound}
 use Rattle.kl_install.specs.After.{digest_at, same_digest, is_sound, moved, all_moved, after, after_text, after_entries, entries_for, entries_in, same_slot, temp_of}
 use Rattle.kl_install.specs.Batch.{Each, AreApart}
@@ -25,7 +29,7 @@ use Rattle.kl_install.specs.Recovered.{Stands, IsNew, IsOld, IsSound, IsComplete
 use Rattle.kl_install.proofs.Named.{is_batch, turned}
 use Rattle.kl_install.proofs.Recovered.{each_map, each_both, moved_other, all_moved_other, renamed_to, both_true, first_true, second_true}
 use Rattle.kl_install.proofs.Again.{all_gone}
-use Rattle.kl_install.proofs.Redone.{all_sound, one_unsound}
+use Rattle.kl_install.proofs.Redone.{all_sound, one_unsound, found_batch}
 
 same_digests : (a b : Option (List ℕ)) → same_digest a b ≡ true → a ≡ b
 same_digests None None e = refl
@@ -265,3 +269,10 @@ ends_so slot m = ends_of_file slot m (get m (slot_name slot)) refl
 
 pub ended : (slot : Slot) (m x : Names) (end : SlotEnd) → end ≡ slot_end slot m → x ≡ after slot m → Recovers slot end m x
 ended slot m x end is names = subst (λ (e : SlotEnd). Recovers slot e m x) (sym is) (subst (λ (y : Names). Recovers slot (slot_end slot m) m y) (sym names) (ends_so slot m))
+
+-- an intent that is found stands in the slot
+pub stands_found : (slot : Slot) (f : Found) (i : Intent) (m : Names) → f ≡ Batch i → IsFound slot f (get m (slot_name slot)) → Stands slot (entries_of i) m
+stands_found slot f i m is found =
+    let it = found_batch slot i (get m (slot_name slot)) (subst (λ (k : Found). IsFound slot k (get m (slot_name slot))) is found) in
+    let from = intent_from it.0 slot (entries_of i) it.2 in
+    record { are = from.entries; text = it.1 ∙ ap (λ (t : List ℕ). Some t) from.text }

@@ -8,3 +8,4 @@ pub mod TempNames
 pub mod Stagings
 pub mod Redone
 pub mod Ended
+pub mod Untouched

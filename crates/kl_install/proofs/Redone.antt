@@ -190,7 +190,7 @@ pub slot_there : (slot : Slot) (es : List Entry) (d : Disk) → AreEntries es �
 slot_there slot es d are has = ap is_some (all_moved_other es (names_now d) (slot_name slot) (is_batch slot es are).slot_away ∙ has.stands)
 
 -- what is found in a slot
-found_batch : (slot : Slot) (i : Intent) (file : Option (List ℕ)) → IsFound slot (Batch i) file → (text : List ℕ) × (file ≡ Some text) × (intent_read text ≡ Ok (slot, entries_of i))
+pub found_batch : (slot : Slot) (i : Intent) (file : Option (List ℕ)) → IsFound slot (Batch i) file → (text : List ℕ) × (file ≡ Some text) × (intent_read text ≡ Ok (slot, entries_of i))
 found_batch slot i None found = absurd found
 found_batch slot i (Some text) found = (text, refl, found.0)
 

@@ -7,4 +7,5 @@ pub mod Finding
 pub mod Staging
 pub mod Installers
 pub mod Recovered
+pub mod Others
 pub mod Props

@@ -10,8 +10,9 @@ ghost use Rattle.kl_store.specs.Names.{Rename, is_scratch};
 ghost use Rattle.kl_store.specs.Files.{SameFiles};
 ghost use Rattle.kl_intent.specs.IntentText.{AreEntries, IsEntry, entries_of, intent_text, slot_name};
 ghost use Rattle.kl_install.specs.After.{temp_name, temp_of};
-ghost use Rattle.kl_install.specs.Batch.{batch, AreApart, IsStaged};
+ghost use Rattle.kl_install.specs.Batch.{batch, AreApart, IsAway, IsStaged};
 ghost use Rattle.kl_install.specs.Committed.{Commits};
+ghost use Rattle.kl_install.specs.Others.{KeepsNames, IsOther};
 ghost use Rattle.kl_install.specs.Moving.{IsMoving, AreMoved, HasIntent, MayIntend, CanMove, CanRemove};
 
 use kl_base::{Name, Slot};
@@ -24,6 +25,7 @@ pub fn install<S: Store>(store: &mut S, intent: &Intent) -> Result<(), Failed>
     requires entries { AreEntries (entries_of intent.now) }
     requires staged { ForSome (S.meaning store.old).disk (IsStaged (batch intent.now.slot (entries_of intent.now))) }
     ensures commits { Commits (batch intent.now.slot (entries_of intent.now)) (S.meaning store.old) (S.meaning store.new) result }
+    ensures others { KeepsNames (IsOther (batch intent.now.slot (entries_of intent.now))) (S.meaning store.old) (S.meaning store.new) }
     ensures cause { HasCause (S.faults store.old) (S.faults store.new) result }
 {
     intend(store, intent)?;
@@ -37,6 +39,7 @@ fn intend<S: Store>(store: &mut S, intent: &Intent) -> Result<(), Failed>
     requires entries { AreEntries (entries_of intent.now) }
     ensures done { Ends (S.meaning store.old) (S.meaning store.new) result (HasIntent (slot_name intent.now.slot) (temp_name (slot_name intent.now.slot)) (intent_text intent.now.slot (entries_of intent.now))) }
     ensures images { LeavesOfDisk (S.meaning store.old) (S.meaning store.new) (MayIntend (slot_name intent.now.slot) (temp_name (slot_name intent.now.slot)) (intent_text intent.now.slot (entries_of intent.now))) }
+    ensures others { KeepsNames (λ n. (n ≢ slot_name intent.now.slot) × (n ≢ temp_name (slot_name intent.now.slot))) (S.meaning store.old) (S.meaning store.new) }
     ensures cause { HasCause (S.faults store.old) (S.faults store.new) result }
 {
     let slot = slot_name(intent.slot);
@@ -53,6 +56,7 @@ fn move_batch<S: Store>(store: &mut S, intent: &Intent) -> Result<(), Failed>
     requires wait { ForSome (S.meaning store.old).disk (CanMove (entries_of intent.now)) }
     ensures done { Ends (S.meaning store.old) (S.meaning store.new) result (AreMoved (entries_of intent.now)) }
     ensures images { Leaves (S.meaning store.old) (S.meaning store.new) (IsMoving (entries_of intent.now)) }
+    ensures others { KeepsNames (λ n. IsAway n (entries_of intent.now)) (S.meaning store.old) (S.meaning store.new) }
     ensures cause { HasCause (S.faults store.old) (S.faults store.new) result }
 {
     move_all(store, intent.entries())
@@ -63,6 +67,7 @@ pub fn forget<S: Store>(store: &mut S, slot: Slot) -> Result<(), Failed>
     requires { ForSome (S.meaning store.old).disk (CanRemove (slot_name slot)) }
     ensures done { Becomes (S.meaning store.old) (S.meaning store.new) result (without (slot_name slot)) }
     ensures images { Leaves (S.meaning store.old) (S.meaning store.new) (λ m x. x ≡ remove m (slot_name slot)) }
+    ensures others { KeepsNames (λ n. n ≢ slot_name slot) (S.meaning store.old) (S.meaning store.new) }
     ensures cause { HasCause (S.faults store.old) (S.faults store.new) result }
 {
     remove_stable(store, &slot_name(slot))
@@ -100,6 +105,7 @@ fn write_intent<S: Store>(
     requires { slot.now ≢ temp.now }
     ensures done { Ends (S.meaning store.old) (S.meaning store.new) result (HasIntent slot.now temp.now text.now) }
     ensures images { LeavesOfDisk (S.meaning store.old) (S.meaning store.new) (MayIntend slot.now temp.now text.now) }
+    ensures others { KeepsNames (λ n. (n ≢ slot.now) × (n ≢ temp.now)) (S.meaning store.old) (S.meaning store.new) }
     ensures cause { HasCause (S.faults store.old) (S.faults store.new) result }
 {
     write_file(store, temp, text)?;
@@ -113,6 +119,7 @@ pub fn write_file<S: Store>(store: &mut S, name: &Name, bytes: &[u8]) -> Result<
     ensures done { Becomes (S.meaning store.old) (S.meaning store.new) result (with_file name.now bytes.now) }
     ensures images { LeavesOfDisk (S.meaning store.old) (S.meaning store.new) (IsNear name.now) }
     ensures files { is_scratch name.now ≡ true → SameFiles (S.meaning store.old) (S.meaning store.new) }
+    ensures others { KeepsNames (λ n. n ≢ name.now) (S.meaning store.old) (S.meaning store.new) }
     ensures cause { HasCause (S.faults store.old) (S.faults store.new) result }
 {
     store.create(name)?;
@@ -126,6 +133,7 @@ fn move_all<S: Store>(store: &mut S, entries: &[Entry]) -> Result<(), Failed>
     requires wait { ForSome (S.meaning store.old).disk (CanMove entries.now) }
     ensures done { Ends (S.meaning store.old) (S.meaning store.new) result (AreMoved entries.now) }
     ensures images { Leaves (S.meaning store.old) (S.meaning store.new) (IsMoving entries.now) }
+    ensures others { KeepsNames (λ n. IsAway n entries.now) (S.meaning store.old) (S.meaning store.new) }
     ensures cause { HasCause (S.faults store.old) (S.faults store.new) result }
 {
     for entry in entries {
@@ -148,6 +156,7 @@ fn remove_stable<S: Store>(store: &mut S, name: &Name) -> Result<(), Failed>
     requires { ForSome (S.meaning store.old).disk (CanRemove name.now) }
     ensures done { Becomes (S.meaning store.old) (S.meaning store.new) result (without name.now) }
     ensures images { Leaves (S.meaning store.old) (S.meaning store.new) (λ m x. x ≡ remove m name.now) }
+    ensures others { KeepsNames (λ n. n ≢ name.now) (S.meaning store.old) (S.meaning store.new) }
     ensures cause { HasCause (S.faults store.old) (S.faults store.new) result }
 {
     store.remove(name)?;

@@ -1,5 +1,5 @@
 // The installer: files are staged one after another, and then take their places as one batch.
-ghost use Rattle.std.specs.Prelude.{◌≡◌, ◌≤◌, ◌<◌, [], length, true, false, IfOk, OnOk, OnErr, None};
+ghost use Rattle.std.specs.Prelude.{◌≡◌, ◌≢◌, ◌≤◌, ◌<◌, [], length, true, false, IfOk, OnOk, OnErr, None};
 ghost use Rattle.std.specs.Option.{ForSome};
 ghost use Rattle.std.specs.FinMap.{get};
 ghost use Rattle.std.specs.List.{AllByRecursion};
@@ -9,9 +9,10 @@ ghost use Rattle.kl_store.specs.Files.{SameFiles};
 ghost use Rattle.kl_store.specs.Images.{Leaves, LeavesOfDisk, Ends, IsSettledAt};
 ghost use Rattle.kl_intent.specs.IntentText.{is_target, is_new, slot_name, entries_of, IsEntry, AreDistinct};
 ghost use Rattle.kl_install.specs.Props.{each-prop, distinct-prop};
-ghost use Rattle.kl_install.specs.After.{after};
+ghost use Rattle.kl_install.specs.After.{after, temp_name};
 ghost use Rattle.kl_install.specs.Batch.{IsStaged};
 ghost use Rattle.kl_install.specs.Committed.{Commits};
+ghost use Rattle.kl_install.specs.Others.{KeepsNames, IsOther, IsNoneOf};
 ghost use Rattle.kl_install.specs.Recovered.{Recovers};
 ghost use Rattle.kl_install.specs.Recovery.{slot_end, is_clear};
 ghost use Rattle.kl_install.specs.Staging.{CanGoOn, HasFiles, Stages};
@@ -89,6 +90,7 @@ impl Installer {
         // Whatever the answer, no file has changed, and a crash leaves no file changed.
         ensures images { LeavesOfDisk (S.meaning store.old) (S.meaning store.new) HasFiles }
         ensures files { SameFiles (S.meaning store.old) (S.meaning store.new) }
+        ensures others { KeepsNames (λ n. n ≢ temp_name target.now) (S.meaning store.old) (S.meaning store.new) }
         ensures cause { HasCause (S.faults store.old) (S.faults store.new) result }
     {
         self.ready = false;
@@ -109,6 +111,7 @@ impl Installer {
         ensures not_ready { OnErr result (is_ready self.new ≡ false) }
         ensures staged { OnOk result (staged self.new ≡ []) }
         ensures commits { Commits (batch_of self.old) (S.meaning store.old) (S.meaning store.new) result }
+        ensures others { KeepsNames (IsOther (batch_of self.old)) (S.meaning store.old) (S.meaning store.new) }
         ensures cause { HasCause (S.faults store.old) (S.faults store.new) result }
     {
         self.ready = false;
@@ -132,6 +135,7 @@ impl Installer {
 
         // Wherever it stops, recovery goes on to the same names.
         ensures images { Leaves (S.meaning store.old) (S.meaning store.new) (λ m x. after (slot_of self.old) x ≡ after (slot_of self.old) m) }
+        ensures others { ForSome (S.meaning store.old).names (λ m. KeepsNames (IsNoneOf (slot_of self.old) m) (S.meaning store.old) (S.meaning store.new)) }
         ensures cause { HasCause (S.faults store.old) (S.faults store.new) result }
     {
         self.ready = false;

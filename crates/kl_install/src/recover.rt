@@ -1,5 +1,5 @@
 // Recovery of a batch that was stopped.
-ghost use Rattle.std.specs.Prelude.{◌≡◌, ◌≤◌, ◌<◌, ℕ, List, [], length, Some, None, Option, IfOk, OnOk};
+ghost use Rattle.std.specs.Prelude.{◌≡◌, ◌≢◌, ◌≤◌, ◌<◌, ℕ, List, [], length, Some, None, Option, IfOk, OnOk};
 ghost use Rattle.std.specs.Option.{ForSome};
 ghost use Rattle.std.specs.List.{AllByRecursion};
 ghost use Rattle.std.specs.FinMap.{get};
@@ -8,7 +8,8 @@ ghost use Rattle.kl_store.specs.Images.{Leaves, Ends};
 ghost use Rattle.kl_store.specs.Calls.{HasCause, Holds, Stays};
 ghost use Rattle.kl_intent.specs.IntentText.{IsEntry, AreEntries, entries_of, slot_name};
 ghost use Rattle.kl_install.specs.After.{after, all_moved, same_slot};
-ghost use Rattle.kl_install.specs.Batch.{AreApart};
+ghost use Rattle.kl_install.specs.Batch.{AreApart, IsAway};
+ghost use Rattle.kl_install.specs.Others.{KeepsNames, IsNoneOf};
 ghost use Rattle.kl_install.specs.Recovery.{slot_end, entries_end, checked_end, is_clear, IsPartMoved};
 ghost use Rattle.kl_install.specs.Finding.{IsFound, FoundFits, HasIntentOf};
 
@@ -62,6 +63,7 @@ pub fn recover<S: Store>(store: &mut S, slot: Slot, buf: &mut [u8]) -> Result<Sl
     ensures end { IfOk result (λ end. ForSome (S.meaning store.old).names (λ m. end ≡ slot_end slot m)) }
     ensures done { Ends (S.meaning store.old) (S.meaning store.new) result (λ m x. x ≡ after slot m) }
     ensures images { Leaves (S.meaning store.old) (S.meaning store.new) (λ m x. after slot x ≡ after slot m) }
+    ensures others { ForSome (S.meaning store.old).names (λ m. KeepsNames (IsNoneOf slot m) (S.meaning store.old) (S.meaning store.new)) }
     ensures cause { HasCause (S.faults store.old) (S.faults store.new) result }
 {
     store.settle()?;
@@ -123,6 +125,7 @@ fn finish_batch<S: Store>(
     ensures end { IfOk result (λ end. ForSome (S.meaning store.old).disk (λ d. end ≡ entries_end (names_now d) (entries_of intent.now))) }
     ensures done { Ends (S.meaning store.old) (S.meaning store.new) result (λ m x. x ≡ after slot m) }
     ensures images { Leaves (S.meaning store.old) (S.meaning store.new) (λ m x. after slot x ≡ after slot m) }
+    ensures others { KeepsNames (λ n. (n ≢ slot_name slot) × IsAway n (entries_of intent.now)) (S.meaning store.old) (S.meaning store.new) }
     ensures cause { HasCause (S.faults store.old) (S.faults store.new) result }
 {
     finish(store, slot, intent.entries(), buf)
@@ -140,6 +143,7 @@ fn finish<S: Store>(
     ensures end { IfOk result (λ end. ForSome (S.meaning store.old).disk (λ d. end ≡ entries_end (names_now d) entries.now)) }
     ensures done { Ends (S.meaning store.old) (S.meaning store.new) result (λ m x. x ≡ after slot m) }
     ensures images { Leaves (S.meaning store.old) (S.meaning store.new) (λ m x. after slot x ≡ after slot m) }
+    ensures others { KeepsNames (λ n. (n ≢ slot_name slot) × IsAway n entries.now) (S.meaning store.old) (S.meaning store.new) }
     ensures cause { HasCause (S.faults store.old) (S.faults store.new) result }
 {
     if let Some(unsound) = first_unsound(store, entries, buf)? {
@@ -162,6 +166,7 @@ fn move_again<S: Store>(store: &mut S, entries: &[Entry]) -> Result<(), Failed>
     requires moves { ForSome (S.meaning store.old).disk (λ d. AreMoves d.changes) }
     ensures done { Ends (S.meaning store.old) (S.meaning store.new) result (λ m x. x ≡ all_moved entries.now m) }
     ensures images { Leaves (S.meaning store.old) (S.meaning store.new) (IsPartMoved entries.now) }
+    ensures others { KeepsNames (λ n. IsAway n entries.now) (S.meaning store.old) (S.meaning store.new) }
     ensures cause { HasCause (S.faults store.old) (S.faults store.new) result }
 {
     for entry in entries {

@@ -1,5 +1,5 @@
 // A file that waits to take its target's place.
-ghost use Rattle.std.specs.Prelude.{◌≡◌, ◌<◌, length, option_map, true, false, IfOk, OnOk};
+ghost use Rattle.std.specs.Prelude.{◌≡◌, ◌≢◌, ◌<◌, length, option_map, true, false, IfOk, OnOk};
 ghost use Rattle.std.specs.Option.{ForSome};
 ghost use Rattle.std.specs.FinMap.{get};
 ghost use Rattle.sha2.specs.Sha256.{sha256};
@@ -10,6 +10,7 @@ ghost use Rattle.kl_store.specs.Files.{SameFiles};
 ghost use Rattle.kl_store.specs.Names.{is_scratch};
 ghost use Rattle.kl_intent.specs.IntentText.{is_target, IsEntry};
 ghost use Rattle.kl_install.specs.After.{temp_name};
+ghost use Rattle.kl_install.specs.Others.{KeepsNames};
 ghost use Rattle.kl_install.specs.Staging.{AllQuiet, HasFiles, Waits, IsReadyDisk};
 
 use crate::install::{temp_name, write_file};
@@ -33,6 +34,7 @@ pub fn stage_file<S: Store>(
     ensures waits { OnOk result (ForSome (S.meaning store.old).disk (λ d. Waits (temp_name target.now) bytes.now (names_now d) (S.meaning store.new).disk)) }
     ensures images { LeavesOfDisk (S.meaning store.old) (S.meaning store.new) HasFiles }
     ensures files { SameFiles (S.meaning store.old) (S.meaning store.new) }
+    ensures others { KeepsNames (λ n. n ≢ temp_name target.now) (S.meaning store.old) (S.meaning store.new) }
     ensures cause { HasCause (S.faults store.old) (S.faults store.new) result }
 {
     settle_first(store, first)?;
@@ -47,6 +49,7 @@ fn settle_first<S: Store>(store: &mut S, first: bool) -> Result<(), Failed>
     ensures ready { OnOk result (ForSome (S.meaning store.old).disk (λ d. IsReadyDisk (names_now d) (S.meaning store.new).disk)) }
     ensures images { LeavesOfDisk (S.meaning store.old) (S.meaning store.new) Nothing }
     ensures files { SameFiles (S.meaning store.old) (S.meaning store.new) }
+    ensures names { (S.meaning store.new).names ≡ (S.meaning store.old).names }
     ensures cause { HasCause (S.faults store.old) (S.faults store.new) result }
 {
     if first { store.settle() } else { Ok(()) }
@@ -58,6 +61,7 @@ fn write_scratch<S: Store>(store: &mut S, name: &Name, bytes: &[u8]) -> Result<(
     ensures waits { OnOk result (ForSome (S.meaning store.old).disk (λ d. AllQuiet d → Waits name.now bytes.now (names_now d) (S.meaning store.new).disk)) }
     ensures images { LeavesOfDisk (S.meaning store.old) (S.meaning store.new) HasFiles }
     ensures files { SameFiles (S.meaning store.old) (S.meaning store.new) }
+    ensures others { KeepsNames (λ n. n ≢ name.now) (S.meaning store.old) (S.meaning store.new) }
     ensures cause { HasCause (S.faults store.old) (S.faults store.new) result }
 {
     write_file(store, name, bytes)

@@ -3,6 +3,7 @@ use Rattle.kl_intent.specs.IntentText.{entries_of}
 use Rattle.kl_install.specs.Batch.{batch}
 use Rattle.kl_install.proofs.Named.{is_batch, apart_from}
 use Rattle.kl_install.proofs.Whole.{first_images, second_images, third_images, can_move, can_remove, all_ends, commits}
+use Rattle.kl_install.proofs.Untouched.{keeps_trans, keeps_fewer}
 use Rattle.kl_install.proofs.install.install.Goals as goal
 
 pub move_batch-requires-clause-apart : goal.move_batch-requires-clause-apart
@@ -42,3 +43,13 @@ returns-clause-commits g c =
     (all_ends (m c.args.store.now) (m c.intend.new.store) (m c.move_batch.new.store) (m c.forget.new.store) b c.forget.result named c.in_ok-intend.ensures.done c.in_ok-move_batch.ensures.done c.forget.ensures.done)
     (third_images (m c.intend.new.store) b named c.requires.staged (second_images b named c.requires.staged (first_images b named c.requires.staged c.intend.ensures.images) c.in_ok-intend.ensures.done c.move_batch.ensures.images)
     c.in_ok-intend.ensures.done c.in_ok-move_batch.ensures.done c.forget.ensures.images)
+
+pub returns-in_err-intend-clause-others : goal.returns-in_err-intend-clause-others
+returns-in_err-intend-clause-others g c = keeps_fewer (λ n is. (is.0, is.1)) c.intend.ensures.others
+
+pub returns-in_err-move_batch-clause-others : goal.returns-in_err-move_batch-clause-others
+returns-in_err-move_batch-clause-others g c = keeps_trans (keeps_fewer (λ n is. (is.0, is.1)) c.intend.ensures.others) (keeps_fewer (λ n is. is.2) c.move_batch.ensures.others)
+
+pub returns-clause-others : goal.returns-clause-others
+returns-clause-others g c =
+    keeps_trans (keeps_fewer (λ n is. (is.0, is.1)) c.intend.ensures.others) (keeps_trans (keeps_fewer (λ n is. is.2) c.move_batch.ensures.others) (keeps_fewer (λ n is. is.0) c.forget.ensures.others))

@@ -1,4 +1,4 @@
-use Rattle.std.proofs.Common.{arith}
+use Rattle.std.proofs.Common.{arith, refl}
 use Rattle.std.proofs.lemmas.Result.{on_ok_weaker}
 use Rattle.kl_store.specs.Names.{Rename}
 use Rattle.kl_store.specs.Disk.{names_now}
@@ -6,6 +6,7 @@ use Rattle.kl_store.proofs.Moments.{leaves_none, leaves_move, told_settled}
 use Rattle.kl_intent.proofs.Grammar.{entry_at}
 use Rattle.kl_install.specs.After.{temp_of}
 use Rattle.kl_install.proofs.Moves.{split, entry_way, way_moving, at_next, at_first, at_end}
+use Rattle.kl_install.proofs.Untouched.{kept_names, keeps_trans, place_names, settles_names}
 use Rattle.kl_install.proofs.install.move_all.Goals as goal
 
 pub take_place-requires : goal.take_place-requires
@@ -15,6 +16,7 @@ pub loop-entry-init : goal.loop-entry-init
 loop-entry-init g c = record {
   state = λ d told. at_first _ d c.args.entries.now told (c.requires.wait d told).0;
   images = leaves_none;
+  others = kept_names _ _ refl;
   faults = omega arith;
 }
 
@@ -35,6 +37,7 @@ loop-entry-preserved g c =
       images = leaves_move (Rename (temp_of e) e.target) tt c.loop-entry.invariant.images c.take_place.ensures.does.images (λ d told.
           let at = c.loop-entry.invariant.state d told in
           (at.now, at.told, at.moves, λ is. way_moving _ _ _ _ (entry_way (names_now d) (names_now at.now) c.args.entries.now c.loop-entry.entry-index e s c.requires.apart at.way)));
+      others = keeps_trans c.loop-entry.invariant.others (place_names c.args.entries.now c.loop-entry.entry-index e c.loop-entry-test.true c.entry-item.is c.take_place.ensures.does);
       faults = omega (arith, c.loop-entry.invariant.faults, c.take_place.ensures.cause.later);
     }
 
@@ -42,3 +45,9 @@ pub returns-clause-done : goal.returns-clause-done
 returns-clause-done g c = on_ok_weaker c.settle.result (λ s d told.
     let at = c.loop-entry.invariant.state d told in
     (names_now at.now, told_settled at.now s at.told, at_end (names_now d) (names_now at.now) c.args.entries.now c.loop-entry.entry-index (omega arith) at.way)) c.settle.ensures.settles.done
+
+pub returns-in_err-take_place-clause-others : goal.returns-in_err-take_place-clause-others
+returns-in_err-take_place-clause-others g c = keeps_trans c.loop-entry.invariant.others (place_names c.args.entries.now c.loop-entry.entry-index c.entry-item.result c.loop-entry-test.true c.entry-item.is c.take_place.ensures.does)
+
+pub returns-clause-others : goal.returns-clause-others
+returns-clause-others g c = keeps_trans c.loop-entry.invariant.others (kept_names _ _ (settles_names c.settle.ensures.settles))

@@ -3,6 +3,8 @@ use Rattle.kl_store.specs.Disk.{joined}
 use Rattle.kl_store.proofs.Moments.{weaker, leaves_on, told_joined}
 use Rattle.kl_store.proofs.Disks.{near_created, near_written}
 use Rattle.kl_store.proofs.SameFilesLemmas.{does_files, same_files_trans}
+use Rattle.kl_store.specs.Names.{Append}
+use Rattle.kl_install.proofs.Untouched.{does_names, keeps_trans}
 use Rattle.kl_install.proofs.install.write_file.Goals as goal
 
 pub returns-in_err-create-clause-images : goal.returns-in_err-create-clause-images
@@ -17,3 +19,9 @@ returns-in_err-create-clause-files g c = λ scratch. does_files scratch c.create
 
 pub returns-clause-files : goal.returns-clause-files
 returns-clause-files g c = λ scratch. same_files_trans (does_files scratch c.create.ensures.does) (does_files scratch c.append.ensures.does)
+
+pub returns-in_err-create-clause-others : goal.returns-in_err-create-clause-others
+returns-in_err-create-clause-others g c = does_names (Create c.args.name.now) (λ n off. off) c.create.ensures.does
+
+pub returns-clause-others : goal.returns-clause-others
+returns-clause-others g c = keeps_trans (does_names (Create c.args.name.now) (λ n off. off) c.create.ensures.does) (does_names (Append c.args.name.now c.args.bytes.now) (λ n off. off) c.append.ensures.does)

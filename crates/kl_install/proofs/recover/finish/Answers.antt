@@ -7,6 +7,7 @@ use Rattle.kl_store.proofs.Moments.{told_names, told_before, stays_then, weaker,
 use Rattle.kl_intent.specs.IntentText.{slot_name}
 use Rattle.kl_install.specs.Moving.{CanRemove}
 use Rattle.kl_install.proofs.Redone.{foreign_after, sound_after, part_after, removed_after, settled_disk, slot_there}
+use Rattle.kl_install.proofs.Untouched.{keeps_trans, keeps_fewer, kept_names}
 use Rattle.kl_install.proofs.recover.finish.Goals as goal
 
 pub returns-in-Some-clause-done : goal.returns-in-Some-clause-done
@@ -79,3 +80,11 @@ returns-clause-done g c = λ d told.
     let none = λ (d : Disk) (told : (m c.args.store.now).disk ≡ Some d). sym (c.in_ok-unsound.ensures.first (names_now d) (told_names (m c.args.store.now) d told)) ∙ c.in_default.is in
     let end = c.in_ok-move_again.ensures.done d (still.disk ∙ told) in
     (remove end.0 (slot_name slot), c.in_ok-forget.ensures.done _ end.1, ap (λ (k : Names). remove k (slot_name slot)) end.2 ∙ sym (sound_after slot es d (c.requires.stands d told) (none d told)))
+
+pub returns-in_err-forget-clause-others : goal.returns-in_err-forget-clause-others
+returns-in_err-forget-clause-others g c =
+    keeps_trans (kept_names _ _ c.first_unsound.ensures.still.names) (keeps_trans (keeps_fewer (λ n is. is.1) c.move_again.ensures.others) (keeps_fewer (λ n is. is.0) c.forget.ensures.others))
+
+pub returns-clause-others : goal.returns-clause-others
+returns-clause-others g c =
+    keeps_trans (kept_names _ _ c.first_unsound.ensures.still.names) (keeps_trans (keeps_fewer (λ n is. is.1) c.move_again.ensures.others) (keeps_fewer (λ n is. is.0) c.forget.ensures.others))

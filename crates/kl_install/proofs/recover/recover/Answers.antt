@@ -6,6 +6,8 @@ use Rattle.kl_store.proofs.Moments.{told_names, told_before, told_settled, same_
 use Rattle.kl_intent.specs.IntentText.{entries_of}
 use Rattle.kl_install.specs.Finding.{FoundFits, HasIntentOf}
 use Rattle.kl_install.proofs.Redone.{batch_found, nothing_after, bad_after}
+use Rattle.kl_install.proofs.Untouched.{keeps_trans, keeps_fewer, kept_names, settles_names}
+use Rattle.kl_install.proofs.Ended.{stands_found}
 use Rattle.kl_install.proofs.recover.recover.Goals as goal
 
 pub finish_batch-requires-clause-few : goal.finish_batch-requires-clause-few
@@ -41,3 +43,11 @@ returns-in-Bad-clause-done g c = λ d told.
 
 pub returns-in-Batch-clause-done : goal.returns-in-Batch-clause-done
 returns-in-Batch-clause-done g c = on_ok_weaker c.finish_batch.result (λ s d told. s (settled d) (c.find.ensures.still.disk ∙ told_settled d c.in_ok-settle.ensures.settles.done told)) c.finish_batch.ensures.done
+
+pub returns-in-Batch-clause-others : goal.returns-in-Batch-clause-others
+returns-in-Batch-clause-others g c = λ m told.
+    let s = g.S.Store.meaning in
+    let same = settles_names c.settle.ensures.settles in
+    let found = c.in_ok-find.ensures.found m (same ∙ told) in
+    let stands = stands_found c.args.slot c.in_ok-find.field-0 c.in-Batch.intent m c.in-Batch.is found in
+    keeps_trans (kept_names (s c.args.store.now) (s c.settle.new.self) same) (keeps_trans (kept_names (s c.settle.new.self) (s c.find.new.store) c.find.ensures.still.names) (keeps_fewer (λ n is. (is.0, is.1 (entries_of c.in-Batch.intent) stands)) c.finish_batch.ensures.others))

@@ -10,6 +10,7 @@ use Rattle.kl_install.specs.After.{temp_name}
 use Rattle.kl_install.specs.Staging.{Waits}
 use Rattle.kl_install.proofs.Named.{target_short}
 use Rattle.kl_install.proofs.Stagings.{files_then}
+use Rattle.kl_install.proofs.Untouched.{keeps_trans, kept_names}
 use Rattle.kl_install.proofs.stage.stage_file.Goals as goal
 
 pub temp_name-requires : goal.temp_name-requires
@@ -37,3 +38,13 @@ returns-clause-waits g c = λ d told.
     let r = c.in_ok-settle_first.ensures.ready d told in
     let waits = c.in_ok-write_scratch.ensures.waits r.now (c.digest_file.ensures.still.disk ∙ r.told) r.quiet in
     subst (λ (m : Names). Waits (temp_name c.args.target.now) c.args.bytes.now m (g.S.Store.meaning c.write_scratch.new.store).disk) r.names (rw c.temp_name.ensures at waits)
+
+pub returns-in_err-write_scratch-clause-others : goal.returns-in_err-write_scratch-clause-others
+returns-in_err-write_scratch-clause-others g c =
+    let s = g.S.Store.meaning in
+    keeps_trans (kept_names (s c.args.store.now) (s c.settle_first.new.store) c.settle_first.ensures.names) (keeps_trans (kept_names (s c.settle_first.new.store) (s c.digest_file.new.store) c.digest_file.ensures.still.names) (rw c.temp_name.ensures at c.write_scratch.ensures.others))
+
+pub returns-clause-others : goal.returns-clause-others
+returns-clause-others g c =
+    let s = g.S.Store.meaning in
+    keeps_trans (kept_names (s c.args.store.now) (s c.settle_first.new.store) c.settle_first.ensures.names) (keeps_trans (kept_names (s c.settle_first.new.store) (s c.digest_file.new.store) c.digest_file.ensures.still.names) (rw c.temp_name.ensures at c.write_scratch.ensures.others))
