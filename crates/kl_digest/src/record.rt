@@ -114,18 +114,11 @@ fn wrong_digit(digits: &[u8]) -> Option<u32>
     ensures { result ≡ digit_place digits.now 16 }
 {
     for place in 0..64 {
-        if !is_digit(digits[place]) {
+        if !digits[place].is_ascii_hexdigit() {
             return Some(place as u32 + 16);
         }
     }
     None
-}
-
-// Whether the byte is a hexadecimal digit.
-fn is_digit(byte: u8) -> bool
-    ensures { result ≡ is_hex_digit byte }
-{
-    matches!(byte, b'A'..=b'F' | b'a'..=b'f' | b'0'..=b'9')
 }
 
 // The value of 64 digits.

@@ -25,7 +25,7 @@ use Rattle.kl_install.specs.declared.recover.Unsound.{Unsound}
 use Rattle.kl_install.specs.After.{digest_at, same_digest, is_sound, moved, all_moved, after, after_text, after_entries, entries_for, entries_in, same_slot, temp_of}
 use Rattle.kl_install.specs.Batch.{Each, AreApart}
 use Rattle.kl_install.specs.Recovery.{first_unsound, checked_end, entries_end, read_end, text_end, slot_end}
-use Rattle.kl_install.specs.Recovered.{Stands, IsNew, IsOld, IsSound, IsCompleted, IsForeign, Recovers}
+use Rattle.kl_install.specs.Recovered.{Stands, IsNew, IsAsNoted, IsSound, IsCompleted, IsForeign, Recovers}
 use Rattle.kl_install.proofs.Named.{is_batch, turned}
 use Rattle.kl_install.proofs.Recovered.{each_map, each_both, moved_other, all_moved_other, renamed_to, both_true, first_true, second_true}
 use Rattle.kl_install.proofs.Again.{all_gone}
@@ -77,11 +77,11 @@ is_sound_of_new m e is = first_true _ _ (both_true _ _ (digests_same (digest_at 
     (λ none. first_true (is_none (digest_at m (temp_of e))) _ (ap (λ (o : Option (List ℕ)). is_none (option_map sha256 o)) none))
     (λ some. second_true (is_none (digest_at m (temp_of e))) _ (digests_same (digest_at m (temp_of e)) (Some e.new) some)) is.temp))
 
-is_sound_of_old : (m : Names) (e : Entry) → IsOld m e → is_sound m e ≡ true
-is_sound_of_old m e is = second_true _ _ (both_true _ _ (digests_same (digest_at m e.target) e.old is.target) (digests_same (digest_at m (temp_of e)) (Some e.new) is.temp))
+is_sound_of_noted : (m : Names) (e : Entry) → IsAsNoted m e → is_sound m e ≡ true
+is_sound_of_noted m e is = second_true _ _ (both_true _ _ (digests_same (digest_at m e.target) e.old is.target) (digests_same (digest_at m (temp_of e)) (Some e.new) is.temp))
 
 is_unsound : (m : Names) (e : Entry) → is_sound m e ≡ false → ¬ IsSound m e
-is_unsound m e fails sound = true_false (sym (⊎_elim (is_sound_of_new m e) (is_sound_of_old m e) sound) ∙ fails)
+is_unsound m e fails sound = true_false (sym (⊎_elim (is_sound_of_new m e) (is_sound_of_noted m e) sound) ∙ fails)
   where
     true_false : {P : Type 0} → true ≡ false → P
     true_false p = cc

@@ -22,12 +22,12 @@ pub record IsNew (m : Names) (e : Entry) : Type 0 where
   pub temp : (get m (temp_of e) ≡ None) ⊎ (digest_at m (temp_of e) ≡ Some e.new)
 
 -- the target is as it was noted, and its temporary is new
-pub record IsOld (m : Names) (e : Entry) : Type 0 where
+pub record IsAsNoted (m : Names) (e : Entry) : Type 0 where
   pub target : digest_at m e.target ≡ e.old
   pub temp : digest_at m (temp_of e) ≡ Some e.new
 
 abbrev pub IsSound : Names → Entry → Type 0
-IsSound m e = IsNew m e ⊎ IsOld m e
+IsSound m e = IsNew m e ⊎ IsAsNoted m e
 
 -- Each entry of the slot's intent was sound. Now each target is new, the temporaries and the slot are gone, and all other
 -- names are as in m.
