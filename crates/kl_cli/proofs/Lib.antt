@@ -1,5 +1,2 @@
-pub mod Written
-pub mod Refused
 pub mod Said
-pub mod SmallInputs
-pub mod OneInput
+pub mod Words

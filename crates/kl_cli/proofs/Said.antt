@@ -6,9 +6,9 @@ use Rattle.std.proofs.lemmas.List.{take_all, append-nil}
 use Rattle.kl_store.specs.Outside.{Taken, Writes}
 use Rattle.kl_store.specs.Calls.{HasCause}
 use Rattle.kl_cli.specs.Answers.{Says, said, usage_line}
-use Rattle.kl_cli.specs.declared.exit.Cause.{Cause}
-use Rattle.kl_cli.specs.declared.exit.Cause.TheVariants.{Done, Usage, NoMemory, Store, Kit, NotYet}
-use Rattle.kl_cli.specs.declared.exit.Cause.TheVariants as cause
+use Rattle.kl_jobs.specs.declared.cause.Cause.{Cause}
+use Rattle.kl_jobs.specs.declared.cause.Cause.TheVariants.{Done, Usage, NoMemory, Store, Kit, NotYet}
+use Rattle.kl_jobs.specs.declared.cause.Cause.TheVariants as cause
 
 nothing : (o : Option (List ℕ)) → o ≡ option_map (λ taken. taken ++ []) o
 nothing None = refl

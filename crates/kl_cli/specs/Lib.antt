@@ -1,5 +1,3 @@
 pub mod Commands
 pub mod Answers
-pub mod Links
-pub mod Writing
-pub mod Small
+pub mod Done

@@ -1,63 +1,8 @@
-// What the program answers.
-use kl_base::{Name, NoMemory};
-use kl_model::LinkFault;
-use kl_rel::ReadFault;
-use kl_store::Failed;
-use std::alloc::AllocFailed;
+// How a command ended.
+ghost use Rattle.std.specs.Prelude.{◌≡◌};
+ghost use Rattle.kl_cli.specs.Answers.{status_of};
 
-/// How a command ended, in the order in which refusals are asked.
-#[derive(Debug, Drop, PartialEq)]
-pub enum Cause {
-    /// All was done.
-    Done,
-    /// The words are no command.
-    Usage,
-    /// Memory ran out.
-    NoMemory,
-    /// A call of the store failed.
-    Store,
-    /// The kit isn't read.
-    Kit(KitCause),
-    /// An input isn't read: its number, its line in the kit text, and the first flaw of its bytes.
-    Object {
-        input: u32,
-        line: u32,
-        fault: ObjectCause,
-    },
-    /// The kit doesn't link.
-    Link(LinkFault),
-    /// The kit text or an input is of a form that isn't linked yet.
-    NotYet,
-}
-
-/// Why an input isn't read.
-#[derive(Clone, Copy, Debug, PartialEq, Eq)]
-pub enum ObjectCause {
-    /// A flaw of a relocatable object.
-    Elf(ReadFault),
-}
-
-/// Why a kit isn't read.
-#[derive(Clone, Copy, Debug, PartialEq, Eq)]
-pub enum KitCause {
-    /// There is no file of the name.
-    Absent(Name),
-    /// The file is longer than its limit.
-    TooLong(Name),
-    /// The input of a line of the kit text takes the kit past a limit.
-    Total { what: TotalOf, line: u32 },
-}
-
-/// What a kit has too much of.
-#[derive(Clone, Copy, Debug, PartialEq, Eq)]
-pub enum TotalOf {
-    /// More than 2^20 sections.
-    Sections,
-    /// More than 2^22 symbols.
-    Symbols,
-    /// More than 2^23 fields.
-    Fields,
-}
+use kl_jobs::Cause;
 
 /// How a command ended: the status that the process ends with, its cause, and the number of batches of files that were
 /// installed.
@@ -66,27 +11,6 @@ pub struct Exit {
     pub status: u8,
     pub cause: Cause,
     pub batches: u32,
-}
-
-impl Cause {
-    ghost use Rattle.std.specs.Prelude.{◌≡◌};
-    ghost use Rattle.kl_cli.specs.Answers.{status_of};
-
-    /// The status that a process ends with for this cause.
-    pub fn status(&self) -> u8
-        ensures { result ≡ status_of self.now }
-    {
-        match self {
-            Cause::Done => 0,
-            Cause::Usage => 2,
-            Cause::NoMemory => 3,
-            Cause::Store => 4,
-            Cause::Kit(_) => 12,
-            Cause::Object { .. } => 13,
-            Cause::Link(_) => 14,
-            Cause::NotYet => 19,
-        }
-    }
 }
 
 impl Exit {
@@ -100,42 +24,25 @@ impl Exit {
         ensures batches { result.batches ≡ 0 }
     {
         Exit {
-            status: cause.status(),
+            status: status(&cause),
             cause,
             batches: 0,
         }
     }
 }
 
-impl From<NoMemory> for Cause {
-    ghost use Rattle.std.specs.Prelude.{◌≡◌};
-    ghost use Rattle.kl_cli.specs.declared.exit.Cause.TheVariants as cause;
-
-    ghost from_gives = { λ _ e. e ≡ cause.NoMemory };
-
-    fn from(_: NoMemory) -> Self {
-        Cause::NoMemory
-    }
-}
-
-impl From<Failed> for Cause {
-    ghost use Rattle.std.specs.Prelude.{◌≡◌};
-    ghost use Rattle.kl_cli.specs.declared.exit.Cause.TheVariants as cause;
-
-    ghost from_gives = { λ _ e. e ≡ cause.Store };
-
-    fn from(_: Failed) -> Self {
-        Cause::Store
-    }
-}
-
-impl<T: Drop> From<AllocFailed<T>> for Cause {
-    ghost use Rattle.std.specs.Prelude.{◌≡◌};
-    ghost use Rattle.kl_cli.specs.declared.exit.Cause.TheVariants as cause;
-
-    ghost from_gives = { λ _ e. e ≡ cause.NoMemory };
-
-    fn from(_: AllocFailed<T>) -> Self {
-        Cause::NoMemory
+/// The status that a process ends with for this cause.
+pub fn status(cause: &Cause) -> u8
+    ensures { result ≡ status_of cause.now }
+{
+    match cause {
+        Cause::Done => 0,
+        Cause::Usage => 2,
+        Cause::NoMemory => 3,
+        Cause::Store => 4,
+        Cause::Kit(_) => 12,
+        Cause::Object { .. } => 13,
+        Cause::Link(_) => 14,
+        Cause::NotYet => 19,
     }
 }

@@ -3,32 +3,24 @@
 
 mod command;
 mod exit;
-mod files;
 mod host;
-mod input;
-mod link;
 mod run;
 
 use crate::host::{HostEntropy, HostSink, HostStore};
 pub use command::Command;
-pub use exit::{Cause, Exit, KitCause, ObjectCause, TotalOf};
+pub use exit::Exit;
 pub use run::run;
 use std::env;
 use std::io::{self, ErrorKind};
 use std::process::ExitCode;
 use std::rt::Env;
 
-#[cfg(test)]
-mod kernels;
-#[cfg(test)]
-mod tests;
-
 fn main(rt: HostRuntime) -> ExitCode {
     let alloc = rt.alloc();
     let words = match words_after_name(&rt) {
         Ok(words) => words,
         Err(e) if e.kind() == ErrorKind::OutOfMemory => {
-            return ExitCode::from(Cause::NoMemory.status());
+            return ExitCode::from(exit::status(&kl_jobs::Cause::NoMemory));
         }
         // a word that isn't UTF-8 is no command
         Err(_) => Vec::new(alloc),

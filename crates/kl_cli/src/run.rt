@@ -1,15 +1,17 @@
 // The top call.
 ghost use Rattle.std.specs.Prelude.{◌≡◌, ◌≢◌, ◌↔◌, ◌⊎◌, None, Some, unwrap_or};
 ghost use Rattle.std.specs.Option.{ForSome};
-ghost use Rattle.kl_store.specs.Calls.{Rose};
-ghost use Rattle.kl_store.specs.Files.{SameFiles};
+ghost use Rattle.kl_store.specs.Calls.{Rose, Stays};
+ghost use Rattle.kl_store.specs.Files.{HasFiles, SameFiles};
+ghost use Rattle.kl_store.specs.Images.{LeavesOfDisk};
 ghost use Rattle.kl_cli.specs.Commands.{IsCommand, command_of};
-ghost use Rattle.kl_cli.specs.Answers.{Answers, IsOutside, Says, refusal_of, status_of, texts};
-ghost use Rattle.kl_cli.specs.Links.{Leaves};
+ghost use Rattle.kl_cli.specs.Answers.{Answers, MayChange, Says, refusal_of, status_of, texts};
+ghost use Rattle.kl_jobs.specs.Refusals.{IsOutside};
+ghost use Rattle.kl_cli.specs.Done.{Finishes};
 
 use crate::command::Command;
-use crate::exit::{Cause, Exit};
-use crate::link::link;
+use crate::exit::Exit;
+use kl_jobs::{Cause, link_only};
 use kl_store::{Entropy, Sink, Store};
 use std::alloc::Global;
 
@@ -34,8 +36,10 @@ pub fn run<S: Store, E: Entropy, K: Sink>(
     ensures status { result.status ≡ status_of result.cause }
     ensures batches { result.batches ≡ 0 }
 
-    // What a done command leaves, and what every command leaves alone.
-    ensures done { result.cause ≡ Cause.Done → Leaves (command_of (texts words.now)) (S.meaning store.old) (S.meaning store.new) }
+    // What a done command leaves, stable on the disk, and what every command leaves alone, at each moment.
+    ensures done { result.cause ≡ Cause.Done → Finishes (command_of (texts words.now)) (S.meaning store.old) (S.meaning store.new) }
+    ensures untouched { MayChange result.cause ⊎ Stays (S.meaning store.old) (S.meaning store.new) }
+    ensures images { LeavesOfDisk (S.meaning store.old) (S.meaning store.new) HasFiles }
     ensures files { SameFiles (S.meaning store.old) (S.meaning store.new) }
     ensures blocks { E.meaning entropy.new ≡ E.meaning entropy.old }
     ensures says { Says result.cause (K.meaning out.old) (K.meaning out.new) (K.faults out.old) (K.faults out.new) }
@@ -60,11 +64,13 @@ fn execute<S: Store>(alloc: Global, command: Command, store: &mut S) -> Cause
     ensures usage { result ≢ Cause.Usage }
     ensures answer { ForSome (S.meaning store.old).names (λ m. IsOutside result ⊎ (unwrap_or (refusal_of m (Some command)) Cause.Done ≡ result)) }
     ensures failed { result ≡ Cause.Store → Rose (S.faults store.old) (S.faults store.new) }
-    ensures done { result ≡ Cause.Done → Leaves (Some command) (S.meaning store.old) (S.meaning store.new) }
+    ensures done { result ≡ Cause.Done → Finishes (Some command) (S.meaning store.old) (S.meaning store.new) }
+    ensures untouched { MayChange result ⊎ Stays (S.meaning store.old) (S.meaning store.new) }
+    ensures images { LeavesOfDisk (S.meaning store.old) (S.meaning store.new) HasFiles }
     ensures files { SameFiles (S.meaning store.old) (S.meaning store.new) }
 {
     match command {
-        Command::Link(dir) => match link(alloc, &dir, store) {
+        Command::Link(dir) => match link_only(alloc, &dir, store) {
             Ok(()) => Cause::Done,
             Err(cause) => cause,
         },

@@ -2,5 +2,6 @@ pub mod Branches
 pub mod NameMaps
 pub mod Disks
 pub mod Moments
-pub mod SameFilesLemmas
+pub mod KeptNames
+pub mod WrittenFiles
 pub mod Filled

@@ -7,4 +7,4 @@ mod whole;
 
 pub use outside::{Entropy, Sink};
 pub use store::{Failed, Store};
-pub use whole::{WholeFault, read_whole};
+pub use whole::{WholeFault, read_whole, write_whole};

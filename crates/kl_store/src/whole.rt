@@ -1,6 +1,9 @@
-// A file read as a whole.
-ghost use Rattle.std.specs.Prelude.{◌≡◌, ◌<◌, ◌≤◌, ℕ, length, Some, None, option_map, IfOk, IsErrOf};
+// Files that are read and written as a whole.
+ghost use Rattle.std.specs.Prelude.{◌≡◌, ◌≢◌, ◌<◌, ◌≤◌, ℕ, length, Some, None, option_map, IfOk, IsErrOf};
 ghost use Rattle.kl_store.specs.Calls.{Rose, HasCause, Stays, Holds, HasLength, FitsIn, Reads};
+ghost use Rattle.kl_store.specs.Disk.{with_file, IsNear};
+ghost use Rattle.kl_store.specs.Images.{Becomes, LeavesOfDisk};
+ghost use Rattle.kl_store.specs.Files.{KeepsNames};
 
 use crate::{Failed, Store};
 use kl_base::Name;
@@ -88,4 +91,16 @@ fn read_to<S: Store>(store: &mut S, name: &Name, buf: &mut [u8]) -> Result<usize
         have += count;
     }
     Ok(have)
+}
+
+/// Puts a new file of these bytes under the name, in place of one that had it. It isn't stable before the next settle.
+/// Whatever the answer, no other name changes, and a crash leaves what one before might, but for this name.
+pub fn write_whole<S: Store>(store: &mut S, name: &Name, bytes: &[u8]) -> Result<(), Failed>
+    ensures done { Becomes (S.meaning store.old) (S.meaning store.new) result (with_file name.now bytes.now) }
+    ensures images { LeavesOfDisk (S.meaning store.old) (S.meaning store.new) (IsNear name.now) }
+    ensures others { KeepsNames (λ n. n ≢ name.now) (S.meaning store.old) (S.meaning store.new) }
+    ensures cause { HasCause (S.faults store.old) (S.faults store.new) result }
+{
+    store.create(name)?;
+    store.append(name, bytes)
 }

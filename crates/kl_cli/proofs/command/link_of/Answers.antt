@@ -1,4 +1,4 @@
-use Rattle.kl_cli.proofs.Refused.{long_folder}
+use Rattle.kl_cli.proofs.Words.{long_folder}
 use Rattle.kl_cli.proofs.command.link_of.Goals as goal
 
 pub returns-then-dir-gt127-clause-words : goal.returns-then-dir-gt127-clause-words

@@ -1,4 +1,4 @@
-use Rattle.kl_cli.proofs.Refused.{not_two}
+use Rattle.kl_cli.proofs.Words.{not_two}
 use Rattle.kl_cli.proofs.command.Command.of_words.Goals as goal
 
 pub returns-then-words-ne2-clause-words : goal.returns-then-words-ne2-clause-words

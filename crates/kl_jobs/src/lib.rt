@@ -1,0 +1,10 @@
+//! What the commands do: a kit is read from a store, linked, and what came of it is written.
+#![tactic(auto)]
+
+mod cause;
+mod files;
+mod input;
+mod link;
+
+pub use cause::{Cause, KitCause, ObjectCause, TotalOf};
+pub use link::link_only;

@@ -1,0 +1,247 @@
+use kl_base::{Listed, Name};
+use kl_cli::{Exit, run};
+use kl_elf::HeadFault;
+use kl_jobs::{Cause, KitCause, ObjectCause};
+use kl_mem::{ListEntropy, MemStore, VecSink};
+use kl_model::LinkFault;
+use kl_rel::{Feature, ReadFault, ReadKind};
+use std::alloc::Global;
+use std::test::Fail;
+
+/// An object as `as` writes it, in hexadecimal digits: `.text` of f4 eb fd, aligned to 16, with GLOBAL `start` at 0.
+const OBJECT: &[u8] = b"\
+    7f454c4602010100000000000000000001003e000100000000000000000000000000000000000000a0000000000000000000000040000000\
+    0000400005000400f4ebfd000000000000000000000000000000000000000000000000000000000001000000100001000000000000000000\
+    000000000000000000737461727400002e73796d746162002e737472746162002e7368737472746162002e74657874000000000000000000\
+    0000000000000000000000000000000000000000000000000000000000000000000000000000000000000000000000000000000000000000\
+    1b00000001000000060000000000000000000000000000004000000000000000030000000000000000000000000000001000000000000000\
+    0000000000000000010000000200000000000000000000000000000000000000480000000000000030000000000000000300000001000000\
+    0800000000000000180000000000000009000000030000000000000000000000000000000000000078000000000000000700000000000000\
+    0000000000000000010000000000000000000000000000001100000003000000000000000000000000000000000000007f00000000000000\
+    2100000000000000000000000000000001000000000000000000000000000000";
+
+const KIT: &[u8] = b"kind kernel\noutput /bsd\nentry start\nhead k.o\n";
+
+/// A name of 128 bytes.
+const LONG: &[u8] =
+    b"/aaaaaaaaaaaaaaaaaaaaaaaaaaaaaaaaaaaaaaaaaaaaaaaaaaaaaaaaaaaaaaaaaaaaaaaaaaaaaaaaaaaaaaaaaaaaaaaaaaaaaaaaaaaaaaaaaaaaaaaaaaaaaaa";
+
+const USAGE: &[u8] =
+    b"usage: relink link DIR | reorder_kernel | reorder_libs | recover | generate N; --seed HEX may end all but recover\n";
+
+const MAP: &[u8] = b"relink map 1
+output /bsd
+seed 0000000000000000000000000000000000000000000000000000000000000000
+base 0xffffffff81000000
+area text 0xffffffff81000000 0xffffffff81000003
+area rodata 0xffffffff81001000 0xffffffff81001000
+area data 0xffffffff81001000 0xffffffff81001000
+area bss 0xffffffff81001000 0xffffffff81001000
+area init 0xffffffff81000003 0xffffffff81000003
+area fini 0xffffffff81000003 0xffffffff81000003
+area stubs 0xffffffff81000003 0xffffffff81000003
+area eh_frame 0xffffffff81001000 0xffffffff81001000
+area tables 0xffffffff81001000 0xffffffff81001000
+area ctors 0xffffffff81001000 0xffffffff81001000
+area dtors 0xffffffff81001000 0xffffffff81001000
+area init_array 0xffffffff81001000 0xffffffff81001000
+area fini_array 0xffffffff81001000 0xffffffff81001000
+area got 0xffffffff81001000 0xffffffff81001000
+area dynamic 0xffffffff81001000 0xffffffff81001000
+piece 0 1 0xffffffff81000000 0x0000000000000003
+end
+";
+
+fn named(bytes: &[u8]) -> Result<Name, Fail> {
+    Ok(Name::from_bytes(bytes)?)
+}
+
+fn object(alloc: Global) -> Result<Vec<u8>, Fail> {
+    Ok(hex::decode(alloc, OBJECT)?)
+}
+
+/// The answer to words over a store, with what was written to the sink.
+fn answer(alloc: Global, words: &[&[u8]], store: &mut MemStore) -> Result<(Exit, VecSink), Fail> {
+    let mut given = Vec::new(alloc);
+    for word in words {
+        given.push(Vec::from_slice(alloc, word)?)?;
+    }
+    let mut entropy = ListEntropy::new(Vec::new(alloc));
+    let mut out = VecSink::new(alloc);
+    let exit = run(alloc, &given, store, &mut entropy, &mut out);
+    Ok((exit, out))
+}
+
+/// A store with a kit text and an object in the folder `/kit`.
+fn kit_store(alloc: Global, text: &[u8], object: &[u8]) -> Result<MemStore, Fail> {
+    let mut store = MemStore::new(alloc);
+    store.put(&named(b"/kit/link.conf")?, text)?;
+    store.put(&named(b"/kit/k.o")?, object)?;
+    Ok(store)
+}
+
+#[test]
+fn links_one_object(rt: HostRuntime) -> Result<(), Fail> {
+    let alloc = rt.alloc();
+    let mut store = kit_store(alloc, KIT, &object(alloc)?)?;
+    let (exit, out) = answer(alloc, &[b"link", b"/kit"], &mut store)?;
+    assert_eq!(rt;
+        (exit.status, exit.cause, exit.batches),
+        (0, Cause::Done, 0)
+    );
+    assert_eq!(rt; out.bytes(), b"".as_slice());
+    let image = store.get(&named(b"/kit/linked.relink")?).ok_or("an image")?;
+    assert_eq!(rt; image.len(), 4099);
+    assert_eq!(rt;
+        &image[24..32],
+        [0, 0, 0, 0x81, 0xff, 0xff, 0xff, 0xff].as_slice()
+    );
+    assert_eq!(rt; &image[4096..], b"\xf4\xeb\xfd".as_slice());
+    let map = store
+        .get(&named(b"/kit/linked.map.relink")?)
+        .ok_or("a map")?;
+    assert_eq!(rt; map, MAP);
+    assert_eq!(rt; store.get(&named(b"/kit/link.conf")?), Some(KIT));
+    Ok(())
+}
+
+#[test]
+fn tells_usage(rt: HostRuntime) -> Result<(), Fail> {
+    let alloc = rt.alloc();
+    let cases: [&[&[u8]]; 7] = [
+        &[],
+        &[b"link"],
+        &[b"link", b"kit"],
+        &[b"link", b"/a/../b"],
+        &[b"link", LONG],
+        &[b"link", b"/kit", b"/kit"],
+        &[b"reorder_kernel", b"/kit"],
+    ];
+    for words in cases {
+        let mut store = MemStore::new(alloc);
+        store.fail_at(0, false)?;
+        let (exit, out) = answer(alloc, words, &mut store)?;
+        assert_eq!(rt;
+            (exit.status, exit.cause),
+            (2, Cause::Usage),
+            "at {words:?}"
+        );
+        assert_eq!(rt; out.bytes(), USAGE);
+    }
+    Ok(())
+}
+
+#[test]
+fn refuses_other_forms(rt: HostRuntime) -> Result<(), Fail> {
+    let alloc = rt.alloc();
+    let good = object(alloc)?;
+    let texts: [&[u8]; 6] = [
+        b"",
+        b"kind kernel\noutput /bsd\nentry start\nhead k.o",
+        b"kind kernel\noutput /bsd\nentry start\nhead k.o\nhead l.o\n",
+        b"kind kernel\noutput /bsd\nentry  start\nhead k.o\n",
+        b"kind kernel\noutput /bsd\nentry start\nhead ../k.o\n",
+        b"kind library\noutput /bsd\nentry start\nhead k.o\n",
+    ];
+    for text in texts {
+        let mut store = kit_store(alloc, text, &good)?;
+        let (exit, _) = answer(alloc, &[b"link", b"/kit"], &mut store)?;
+        assert_eq!(rt;
+            (exit.status, exit.cause),
+            (19, Cause::NotYet),
+            "at {text:?}"
+        );
+    }
+    // an archive, and a thin one
+    let archives: [&[u8]; 2] = [b"!<arch>\n", b"!<thin>\n"];
+    for archive in archives {
+        let mut store = kit_store(alloc, KIT, archive)?;
+        let (exit, _) = answer(alloc, &[b"link", b"/kit"], &mut store)?;
+        assert_eq!(rt; (exit.status, exit.cause), (19, Cause::NotYet));
+    }
+    Ok(())
+}
+
+#[test]
+fn tells_flaws_of_an_object(rt: HostRuntime) -> Result<(), Fail> {
+    let alloc = rt.alloc();
+    // the machine; an allocated symbol table
+    let flips = [
+        (18, 3, ReadKind::Head(HeadFault::Machine), 18),
+        (296, 2, ReadKind::Unsupported(Feature::SectionType), 292),
+    ];
+    for (place, byte, kind, at) in flips {
+        let mut bad = object(alloc)?;
+        assert!(rt; place < bad.len());
+        bad[place] = byte;
+        let mut store = kit_store(alloc, KIT, &bad)?;
+        let (exit, _) = answer(alloc, &[b"link", b"/kit"], &mut store)?;
+        let fault = ObjectCause::Elf(ReadFault { kind, at });
+        let cause = Cause::Object {
+            input: 0,
+            line: 4,
+            fault,
+        };
+        assert_eq!(rt; (exit.status, exit.cause), (13, cause));
+        assert_eq!(rt; store.get(&named(b"/kit/linked.relink")?), None);
+    }
+    Ok(())
+}
+
+#[test]
+fn tells_the_fault_of_a_link(rt: HostRuntime) -> Result<(), Fail> {
+    let alloc = rt.alloc();
+    let mut other = object(alloc)?;
+    assert!(rt; 121 < other.len());
+    other[121] = b'S';
+    let mut store = kit_store(alloc, KIT, &other)?;
+    let (exit, _) = answer(alloc, &[b"link", b"/kit"], &mut store)?;
+    let name = Listed::from_vec(Vec::from_slice(alloc, b"start")?);
+    assert_eq!(rt;
+        (exit.status, exit.cause),
+        (14, Cause::Link(LinkFault::NoEntry { name }))
+    );
+    Ok(())
+}
+
+#[test]
+fn tells_absent_and_long_files(rt: HostRuntime) -> Result<(), Fail> {
+    let alloc = rt.alloc();
+    let conf = named(b"/kit/link.conf")?;
+    let mut store = MemStore::new(alloc);
+    let (exit, _) = answer(alloc, &[b"link", b"/kit"], &mut store)?;
+    assert_eq!(rt;
+        (exit.status, exit.cause),
+        (12, Cause::Kit(KitCause::Absent(conf)))
+    );
+    let mut store = MemStore::new(alloc);
+    store.put(&conf, KIT)?;
+    let (exit, _) = answer(alloc, &[b"link", b"/kit"], &mut store)?;
+    let absent = KitCause::Absent(named(b"/kit/k.o")?);
+    assert_eq!(rt; (exit.status, exit.cause), (12, Cause::Kit(absent)));
+    let mut store = MemStore::new(alloc);
+    store.put(&conf, &vec![in alloc; b'#'; 4_194_305]?)?;
+    let (exit, _) = answer(alloc, &[b"link", b"/kit"], &mut store)?;
+    assert_eq!(rt;
+        (exit.status, exit.cause),
+        (12, Cause::Kit(KitCause::TooLong(conf)))
+    );
+    Ok(())
+}
+
+#[test]
+fn tells_store_faults(rt: HostRuntime) -> Result<(), Fail> {
+    let alloc = rt.alloc();
+    for call in 0..9 {
+        let mut store = kit_store(alloc, KIT, &object(alloc)?)?;
+        store.fail_at(call, true)?;
+        let (exit, _) = answer(alloc, &[b"link", b"/kit"], &mut store)?;
+        assert_eq!(rt;
+            (exit.status, exit.cause),
+            (4, Cause::Store),
+            "at call {call}"
+        );
+        assert_eq!(rt; store.get(&named(b"/kit/link.conf")?), Some(KIT));
+    }
+    Ok(())
+}
