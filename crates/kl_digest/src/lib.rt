@@ -6,6 +6,3 @@ mod record;
 
 pub use digest::{digest_file, sha256};
 pub use record::{RecordFault, read_record, record_text};
-
-#[cfg(test)]
-mod tests;

@@ -9,7 +9,8 @@ use Rattle.kl_intent.specs.declared.intent.Entry.{Entry}
 use Rattle.sha2.specs.Sha256.{sha256}
 use Rattle.kl_install.specs.After.{digest_at, same_digest, is_sound, moved, all_moved, temp_of}
 use Rattle.kl_install.specs.Batch.{Each, AreApart}
-use Rattle.kl_install.proofs.Recovered.{each_map, each_both, renamed_to, renamed_from, moved_other, all_moved_other, first_true, both_true}
+use Rattle.kl_install.proofs.Recovered.{each_map, each_both, renamed_to, renamed_from, moved_other, all_moved_other}
+use Rattle.kl_install.proofs.Sounds.{first_true, both_true}
 
 pub all_moved-append : (xs ys : List Entry) (x : Names) → all_moved (xs ++ ys) x ≡ all_moved ys (all_moved xs x)
 all_moved-append [] ys x = refl

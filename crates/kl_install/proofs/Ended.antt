@@ -1,9 +1,8 @@
 -- What recovery finds and leaves, for each of its ends.
-use Rattle.std.proofs.Common.{◌≡◌, ◌≢◌, ◌+◌, inl, inr, ◌⊎◌, ⊎_elim, ℕ, Bool, true, false, ◌&&◌, ◌||◌, List, [], ◌∷◌, ◌++◌, length, refl, sym, ap, ◌∙◌, subst, arith, is_some}
-use Rattle.std.specs.Prelude.{Option, Some, None, Ok, Err, Result, option_map, is_none}
+use Rattle.std.proofs.Common.{◌≡◌, ◌≢◌, ◌+◌, inl, inr, ⊎_elim, ℕ, Bool, true, false, List, [], ◌∷◌, ◌++◌, length, refl, sym, ap, ◌∙◌, subst, arith, is_some}
+use Rattle.std.specs.Prelude.{Option, Some, None, Ok, Err, Result, option_map}
 use Rattle.std.specs.List.{list_all}
 use Rattle.std.specs.FinMap.{get, remove}
-use Rattle.std.proofs.lemmas.Slice.Eq.{bytes_eq-Decides}
 use Rattle.sha2.specs.Sha256.{sha256}
 use Rattle.kl_base.specs.declared.class.Slot.{Slot}
 use Rattle.kl_base.specs.declared.class.Slot.TheVariants.{Kernel, Libs}
@@ -13,7 +12,6 @@ use Rattle.kl_store.proofs.Branches.{cond_true, cond_false}
 use Rattle.kl_store.proofs.Disks.{some_or}
 use Rattle.kl_intent.specs.declared.intent.Entry.{Entry}
 use Rattle.kl_intent.specs.IntentText.{slot_name, intent_text, intent_read, entries_of}
-use Rattle.kl_intent.proofs.Cuts.{and_left, and_right}
 use Rattle.kl_intent.proofs.Grammar.{intent_again, intent_from}
 use Rattle.kl_intent.proofs.Outside.{outside, too_long}
 use Rattle.kl_intent.specs.declared.intent.Intent.{Intent}
@@ -22,73 +20,16 @@ use Rattle.kl_install.specs.declared.recover.Found.TheVariants.{Batch}
 use Rattle.kl_install.specs.declared.recover.SlotEnd.{SlotEnd}
 use Rattle.kl_install.specs.Finding.{IsFound}
 use Rattle.kl_install.specs.declared.recover.Unsound.{Unsound}
-use Rattle.kl_install.specs.After.{digest_at, same_digest, is_sound, moved, all_moved, after, after_text, after_entries, entries_for, entries_in, same_slot, temp_of}
+use Rattle.kl_install.specs.After.{digest_at, is_sound, moved, all_moved, after, after_text, after_entries, entries_for, entries_in, same_slot, temp_of}
 use Rattle.kl_install.specs.Batch.{Each, AreApart}
 use Rattle.kl_install.specs.Recovery.{first_unsound, checked_end, entries_end, read_end, text_end, slot_end}
-use Rattle.kl_install.specs.Recovered.{Stands, IsNew, IsAsNoted, IsSound, IsCompleted, IsForeign, Recovers}
+use Rattle.kl_install.specs.Standing.{Stands, IsSound}
+use Rattle.kl_install.specs.Recovered.{IsCompleted, IsForeign, Recovers}
 use Rattle.kl_install.proofs.Named.{is_batch, turned}
-use Rattle.kl_install.proofs.Recovered.{each_map, each_both, moved_other, all_moved_other, renamed_to, both_true, first_true, second_true}
+use Rattle.kl_install.proofs.Recovered.{each_map, each_both, moved_other, all_moved_other, renamed_to}
+use Rattle.kl_install.proofs.Sounds.{sound_is, is_unsound, each_sound}
 use Rattle.kl_install.proofs.Again.{all_gone}
 use Rattle.kl_install.proofs.Redone.{all_sound, one_unsound, found_batch}
-
-same_digests : (a b : Option (List ℕ)) → same_digest a b ≡ true → a ≡ b
-same_digests None None e = refl
-same_digests None (Some b) e = cc
-same_digests (Some a) None e = cc
-same_digests (Some a) (Some b) e = ap (λ (l : List ℕ). Some l) ((bytes_eq-Decides a b).0 e)
-
-digests_same : (a b : Option (List ℕ)) → a ≡ b → same_digest a b ≡ true
-digests_same None None e = refl
-digests_same None (Some b) e = cc
-digests_same (Some a) None e = cc
-digests_same (Some a) (Some b) e = (bytes_eq-Decides a b).1 (same a b e)
-  where
-    same : (x y : List ℕ) → ◌≡◌ {A = Option (List ℕ)} (Some x) (Some y) → x ≡ y
-    same x y p = cc
-
-or_either : (a b : Bool) → (a || b) ≡ true → (a ≡ true) ⊎ (b ≡ true)
-or_either true b e = inl refl
-or_either false b e = inr e
-
-none_is : (o : Option (List ℕ)) → is_none (option_map sha256 o) ≡ true → o ≡ None
-none_is None e = refl
-none_is (Some b) e = cc
-
--- the test of an entry decides whether it is sound
-sound_is : (m : Names) (e : Entry) → is_sound m e ≡ true → IsSound m e
-sound_is m e is =
-    let target = digest_at m e.target in
-    let temp = digest_at m (temp_of e) in
-    let new = same_digest target (Some e.new) in
-    let left = is_none temp || same_digest temp (Some e.new) in
-    let old = same_digest target e.old in
-    let waits = same_digest temp (Some e.new) in
-    ⊎_elim
-    (λ (p : (new && left) ≡ true). inl (record {
-      target = same_digests target (Some e.new) (and_left new left p);
-      temp = ⊎_elim (λ none. inl (none_is (get m (temp_of e)) none)) (λ some. inr (same_digests temp (Some e.new) some)) (or_either (is_none temp) waits (and_right new left p));
-    }))
-    (λ (p : (old && waits) ≡ true). inr (record { target = same_digests target e.old (and_left old waits p); temp = same_digests temp (Some e.new) (and_right old waits p) }))
-    (or_either (new && left) (old && waits) is)
-
-is_sound_of_new : (m : Names) (e : Entry) → IsNew m e → is_sound m e ≡ true
-is_sound_of_new m e is = first_true _ _ (both_true _ _ (digests_same (digest_at m e.target) (Some e.new) is.target)
-    (⊎_elim
-    (λ none. first_true (is_none (digest_at m (temp_of e))) _ (ap (λ (o : Option (List ℕ)). is_none (option_map sha256 o)) none))
-    (λ some. second_true (is_none (digest_at m (temp_of e))) _ (digests_same (digest_at m (temp_of e)) (Some e.new) some)) is.temp))
-
-is_sound_of_noted : (m : Names) (e : Entry) → IsAsNoted m e → is_sound m e ≡ true
-is_sound_of_noted m e is = second_true _ _ (both_true _ _ (digests_same (digest_at m e.target) e.old is.target) (digests_same (digest_at m (temp_of e)) (Some e.new) is.temp))
-
-is_unsound : (m : Names) (e : Entry) → is_sound m e ≡ false → ¬ IsSound m e
-is_unsound m e fails sound = true_false (sym (⊎_elim (is_sound_of_new m e) (is_sound_of_noted m e) sound) ∙ fails)
-  where
-    true_false : {P : Type 0} → true ≡ false → P
-    true_false p = cc
-
-each_sound : (m : Names) (es : List Entry) → list_all (is_sound m) es ≡ true → Each (IsSound m) es
-each_sound m [] e = tt
-each_sound m (x ∷ es) e = (sound_is m x (and_left (is_sound m x) (list_all (is_sound m) es) e), each_sound m es (and_right (is_sound m x) (list_all (is_sound m) es) e))
 
 -- a sound entry is new when its file has moved
 moved_new : (m : Names) (e : Entry) → IsSound m e → digest_at (moved e m) e.target ≡ Some e.new

@@ -1,4 +1,5 @@
 pub mod Named
+pub mod Sounds
 pub mod Recovered
 pub mod Steps
 pub mod Moves
@@ -9,3 +10,4 @@ pub mod Stagings
 pub mod Redone
 pub mod Ended
 pub mod Untouched
+pub mod Clear

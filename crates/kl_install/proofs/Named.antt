@@ -20,6 +20,7 @@ use Rattle.kl_install.specs.Batch.{Batch, batch, intent_name, intent_temp, Each,
 
 -- the batch's names differ, and its text is its entries'
 pub record IsBatch (b : Batch) : Type 0 where
+  pub are : AreEntries b.entries
   pub apart : AreApart b.entries
   pub slot_away : IsAway (intent_name b) b.entries
   pub temp_away : IsAway (intent_temp b) b.entries
@@ -85,7 +86,7 @@ target_plain t is = (is_target_parts t is).plain
 pub differs : (a b : List ℕ) → not (bytes_eq a b) ≡ true → a ≢ b
 differs a b no_eq same = true_false (sym (ap (bytes_eq a) (sym same) ∙ same_codes a) ∙ not_true (bytes_eq a b) no_eq)
 
-target_no_slot : (t : List ℕ) (s : Slot) → is_target t ≡ true → slot_name s ≢ t
+pub target_no_slot : (t : List ℕ) (s : Slot) → is_target t ≡ true → slot_name s ≢ t
 target_no_slot t Kernel is same = differs t (slot_name Kernel) (is_target_parts t is).kernel (sym same)
 target_no_slot t Libs is same = differs t (slot_name Libs) (is_target_parts t is).libs (sym same)
 
@@ -119,7 +120,7 @@ apart_from before (e ∷ es) each distinct =
     let other = others before [] es e distinct.1 in
     (plain_apart e.target (temp_of e) (target_plain e.target each.0.target) (temp_scratch e.target), each_other e es each.0.target each.1 other, each_temp e es each.1 other, apart_from (before ++ e ∷ []) es each.1 distinct.1)
 
-slot_away : (s : Slot) (es : List Entry) → AllByRecursion IsEntry es → IsAway (slot_name s) es
+pub slot_away : (s : Slot) (es : List Entry) → AllByRecursion IsEntry es → IsAway (slot_name s) es
 slot_away s [] each = tt
 slot_away s (e ∷ es) each = ((target_no_slot e.target s each.0.target, plain_apart (slot_name s) (temp_of e) (slot_plain s) (temp_scratch e.target)), slot_away s es each.1)
 
@@ -144,6 +145,7 @@ reads_own s es are = ap (entries_for s) (intent_again s es are) ∙ same_slots s
 
 pub is_batch : (s : Slot) (es : List Entry) → AreEntries es → IsBatch (batch s es)
 is_batch s es are = record {
+  are = are;
   apart = apart_from [] es are.each are.distinct;
   slot_away = slot_away s es are.each;
   temp_away = slot_temp_away s es are.each;

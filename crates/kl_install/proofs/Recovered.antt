@@ -1,8 +1,7 @@
 -- What recovery makes of the states of a batch.
-use Rattle.std.proofs.Common.{◌≡◌, ◌≢◌, inl, inr, ◌⊎◌, ⊎_elim, ℕ, Bool, true, false, ◌&&◌, ◌||◌, List, [], ◌∷◌, refl, sym, ap, ◌∙◌, is_some}
-use Rattle.std.specs.Prelude.{Option, Some, None, option_map, is_none}
+use Rattle.std.proofs.Common.{◌≡◌, ◌≢◌, inl, inr, ◌⊎◌, ⊎_elim, ℕ, true, false, List, [], ◌∷◌, refl, sym, ap, ◌∙◌, is_some}
+use Rattle.std.specs.Prelude.{Some, None, option_map}
 use Rattle.std.specs.List.{list_all}
-use Rattle.std.proofs.lemmas.Slice.Eq.{bytes_eq-Decides}
 use Rattle.std.specs.FinMap.{get, remove}
 use Rattle.kl_store.specs.Names.{Names, same_name, Rename, carried_out}
 use Rattle.kl_store.proofs.NameMaps.{same_refl, same_eq, same_apart, get-renamed, get-removed}
@@ -14,7 +13,9 @@ use Rattle.kl_install.proofs.Named.{IsBatch, plain_apart}
 use Rattle.kl_intent.specs.declared.intent.Entry.{Entry}
 use Rattle.sha2.specs.Sha256.{sha256}
 use Rattle.kl_store.specs.Names.{is_scratch}
-use Rattle.kl_install.specs.After.{digest_at, same_digest, is_sound, moved, all_moved, after_entries, after_text, after, temp_of, entries_in}
+use Rattle.kl_install.specs.After.{digest_at, is_sound, moved, all_moved, after_entries, after_text, after, temp_of, entries_in}
+use Rattle.kl_install.specs.Standing.{IsSound}
+use Rattle.kl_install.proofs.Sounds.{all_sound_so}
 use Rattle.kl_install.specs.Batch.{Batch, intent_name, intent_temp, Each, IsAway, AreApart, IsReady, IsQuiet, IsOldOrNew, IsDone}
 use Rattle.kl_install.specs.Moving.{IsPlaced, IsWaiting}
 
@@ -79,42 +80,15 @@ all_moved_targets m (e ∷ es) x apart ready h = (
       (each_both _ _ es apart.1 apart.2)) h.1),
 )
 
-same_Some : {A : Type 0} (x y : A) → ◌≡◌ {A = Option A} (Some x) (Some y) → x ≡ y
-same_Some x y e = cc
-
-same_digest_same : (a b : Option (List ℕ)) → a ≡ b → same_digest a b ≡ true
-same_digest_same None None e = refl
-same_digest_same None (Some b) e = cc
-same_digest_same (Some a) None e = cc
-same_digest_same (Some a) (Some b) e = (bytes_eq-Decides a b).1 (same_Some a b e)
-
-pub both_true : (a b : Bool) → a ≡ true → b ≡ true → (a && b) ≡ true
-both_true a b p q = ap (λ v. v && b) p ∙ q
-
-pub first_true : (a b : Bool) → a ≡ true → (a || b) ≡ true
-first_true a b p = ap (λ v. v || b) p
-
-pub second_true : (a b : Bool) → b ≡ true → (a || b) ≡ true
-second_true true b p = refl
-second_true false b p = p
-
 digest_of : (x m : Names) (n p : List ℕ) → get x n ≡ get m p → digest_at x n ≡ digest_at m p
 digest_of x m n p e = ap (option_map sha256) e
 
 staged_digest : (m : Names) (e : Entry) → IsReady m e → digest_at m (temp_of e) ≡ Some e.new
 staged_digest m e ready = ap (option_map sha256) ready.waits ∙ ap (λ (d : List ℕ). Some d) ready.new
 
-sound_entry : (m x : Names) (e : Entry) → IsReady m e → IsPlaced m x e ⊎ IsWaiting m x e → is_sound x e ≡ true
-sound_entry m x e ready (inl placed) = first_true _ _ (both_true _ _
-    (same_digest_same (digest_at x e.target) (Some e.new) (digest_of x m e.target (temp_of e) placed.0 ∙ staged_digest m e ready))
-    (first_true (is_none (digest_at x (temp_of e))) _ (ap (λ (o : Option (List ℕ)). is_none (option_map sha256 o)) placed.1)))
-sound_entry m x e ready (inr waits) = second_true _ _ (both_true _ _
-    (same_digest_same (digest_at x e.target) e.old (digest_of x m e.target e.target waits.0 ∙ ready.old))
-    (same_digest_same (digest_at x (temp_of e)) (Some e.new) (digest_of x m (temp_of e) (temp_of e) waits.1 ∙ staged_digest m e ready)))
-
-sound_all : (m x : Names) (es : List Entry) → Each (IsReady m) es → Each (λ e. IsPlaced m x e ⊎ IsWaiting m x e) es → list_all (is_sound x) es ≡ true
-sound_all m x [] ready h = refl
-sound_all m x (e ∷ es) ready h = both_true _ _ (sound_entry m x e ready.0 h.0) (sound_all m x es ready.1 h.1)
+sound_entry : (m x : Names) (e : Entry) → IsReady m e → IsPlaced m x e ⊎ IsWaiting m x e → IsSound x e
+sound_entry m x e ready (inl placed) = inl (record { target = digest_of x m e.target (temp_of e) placed.0 ∙ staged_digest m e ready; temp = inl placed.1 })
+sound_entry m x e ready (inr waits) = inr (record { target = digest_of x m e.target e.target waits.0 ∙ ready.old; temp = digest_of x m (temp_of e) (temp_of e) waits.1 ∙ staged_digest m e ready })
 
 -- the slot is absent
 pub after_none : (slot : Slot) (x : Names) → get x (slot_name slot) ≡ None → after slot x ≡ x
@@ -124,7 +98,7 @@ pub after_sound : (slot : Slot) (text : List ℕ) (x : Names) (es : List Entry) 
 after_sound slot text x es stands reads sound = ap (after_text slot x) stands ∙ ap (after_entries slot x) reads ∙ cond_true (list_all (is_sound x) es) _ _ sound
 
 -- a plain name that is no target is away from the entries
-plain_away : (n : List ℕ) (es : List Entry) → is_scratch n ≡ false → Each (λ e. (is_scratch e.target ≡ false) × (is_scratch (temp_of e) ≡ true)) es → Each (λ e. n ≢ e.target) es → IsAway n es
+pub plain_away : (n : List ℕ) (es : List Entry) → is_scratch n ≡ false → Each (λ e. (is_scratch e.target ≡ false) × (is_scratch (temp_of e) ≡ true)) es → Each (λ e. n ≢ e.target) es → IsAway n es
 plain_away n es plain ready not_target = each_map _ _ es (λ e h. (h.1, plain_apart n (temp_of e) plain h.0.1)) (each_both _ _ es ready not_target)
 
 -- what is known of a batch, whatever the images
@@ -141,13 +115,16 @@ quiet_old b m x fits quiet =
       targets = inl (each_map _ _ b.entries (λ e ready. ap (λ (y : Names). get y e.target) same ∙ quiet e.target ready.0) fits.batch.targets);
       others = λ n plain no. ap (λ (y : Names). get y n) same ∙ quiet n plain;
       whole = each_map _ _ b.entries (λ e ready. inl (quiet e.target ready.0)) fits.batch.targets;
+      elsewhere = λ n plain slot no. quiet n plain;
+      slot = inl (quiet (intent_name b) fits.batch.plain ∙ fits.free);
     }
 
 -- while it stands
 pub moving_new : (b : Batch) (m x : Names) → Fits b m → get x (intent_name b) ≡ Some (intent_text b.slot b.entries) → Each (λ e. IsPlaced m x e ⊎ IsWaiting m x e) b.entries
     → ((n : List ℕ) → n ≢ (intent_name b) → n ≢ (intent_temp b) → IsAway n b.entries → get x n ≡ get m n) → IsOldOrNew b m x
 moving_new b m x fits stands states others =
-    let end : after b.slot x ≡ remove (all_moved b.entries x) (intent_name b) = after_sound b.slot (intent_text b.slot b.entries) x b.entries stands fits.batch.intent (sound_all m x b.entries fits.ready states) in
+    let sound : Each (IsSound x) b.entries = each_map _ _ b.entries (λ e h. sound_entry m x e h.0 h.1) (each_both _ _ b.entries fits.ready states) in
+    let end : after b.slot x ≡ remove (all_moved b.entries x) (intent_name b) = after_sound b.slot (intent_text b.slot b.entries) x b.entries stands fits.batch.intent (all_sound_so x b.entries sound) in
     let at : (n : List ℕ) → n ≢ (intent_name b) → get (after b.slot x) n ≡ get (all_moved b.entries x) n =
     λ n p. ap (λ (y : Names). get y n) end ∙ get-removed (all_moved b.entries x) (intent_name b) n ∙ cond_false (same_name n (intent_name b)) _ _ (same_apart n (intent_name b) p) in
     let targets : Each (λ e. get (after b.slot x) e.target ≡ get m (temp_of e)) b.entries =
@@ -161,6 +138,8 @@ moving_new b m x fits stands states others =
           at n apart ∙ all_moved_other b.entries x n away ∙ others n apart (plain_apart n (intent_temp b) plain fits.batch.scratch) away)
           (either (same_name n (intent_name b)));
       whole = each_map _ _ b.entries (λ e h. ⊎_elim (λ placed. inr (placed.0 ∙ sym h.1)) (λ waits. inl waits.0) h.0) (each_both _ _ b.entries states targets);
+      elsewhere = λ n plain slot no. others n slot (plain_apart n (intent_temp b) plain fits.batch.scratch) (plain_away n b.entries plain fits.batch.targets no);
+      slot = inr (record { are = fits.batch.are; text = stands }, sound);
     }
 
 -- after it is gone
@@ -174,4 +153,6 @@ done_new b m x fits done =
           (λ other. done.others n (λ e. true_false (sym (ap (λ (q : List ℕ). same_name q (intent_name b)) e ∙ same_refl (intent_name b)) ∙ other)) (plain_apart n (intent_temp b) plain fits.batch.scratch) (plain_away n b.entries plain fits.batch.targets no))
           (either (same_name n (intent_name b)));
       whole = each_map _ _ b.entries (λ e h. inr (ap (λ (y : Names). get y e.target) (sym same))) done.targets;
+      elsewhere = λ n plain slot no. done.others n slot (plain_apart n (intent_temp b) plain fits.batch.scratch) (plain_away n b.entries plain fits.batch.targets no);
+      slot = inl done.slot;
     }

@@ -10,7 +10,8 @@ use Rattle.kl_base.specs.declared.class.Slot.{Slot}
 use Rattle.kl_store.specs.Names.{Names, is_scratch}
 use Rattle.kl_store.specs.Disk.{Disk, names_now}
 use Rattle.kl_store.specs.Meaning.{Meaning}
-use Rattle.kl_store.specs.Images.{LeavesOfDisk, Nothing}
+use Rattle.kl_store.specs.Images.{Leaves, LeavesOfDisk, Nothing}
+use Rattle.kl_store.specs.Files.{SameNames, SameFiles}
 use Rattle.kl_store.specs.Calls.{Stays}
 use Rattle.std.specs.Option.{ForSome}
 use Rattle.kl_store.proofs.Moments.{leaves_on, leaves_still, weaker, same_disk, told_names, told_disk}
@@ -19,9 +20,19 @@ use Rattle.kl_intent.specs.declared.intent.Entry.{Entry}
 use Rattle.kl_intent.specs.IntentText.{slot_name, IsEntry, is_new, AreDistinct}
 use Rattle.kl_install.specs.After.{temp_name, temp_of}
 use Rattle.kl_install.specs.Batch.{Each, Batch, batch, IsReady, IsStaged}
+use Rattle.kl_install.specs.Others.{KeepsNames}
 use Rattle.kl_install.specs.Staging.{IsReadyDisk, HasFiles, IsWritten, Waits, AllQuiet, CanGoOn, Stages}
 use Rattle.kl_install.proofs.Named.{plain_apart, temps_apart, temp_scratch, target_plain, slot_plain, differs}
 use Rattle.kl_intent.proofs.Cuts.{and_left, and_right}
+
+-- what is new since a first settle has the files of the names
+pub quiet_then : {x y z w : Meaning} → LeavesOfDisk x y Nothing → ForSome x.disk (λ d. IsReadyDisk (names_now d) y.disk) → Stays y z → LeavesOfDisk z w HasFiles → Leaves x w SameNames
+quiet_then settled ready still written = leaves_on (weaker (leaves_still settled still.images) (λ d told n none. absurd none)) written (λ d told.
+    let r = ready d told in (
+      r.now,
+      still.disk ∙ r.told,
+      λ n has q plain. has.same q plain ∙ r.quiet has.image has.was q plain ∙ ap (λ (m : Names). get m q) r.names,
+    ))
 
 -- the images of the disk, once it is ready, have the files of the names at first
 pub files_then : {x y z w : Meaning} → LeavesOfDisk x y Nothing → ForSome x.disk (λ d. IsReadyDisk (names_now d) y.disk) → Stays y z → LeavesOfDisk z w HasFiles → LeavesOfDisk x w HasFiles
@@ -35,6 +46,10 @@ files_then settled ready still written = leaves_on (weaker (leaves_still settled
         same = λ q plain. has.same q plain ∙ r.quiet has.image has.was q plain ∙ ap (λ (m : Names). get m q) r.names;
       },
     ))
+
+-- where no name but a temporary changes, the files stay
+pub files_kept : {a b : Meaning} (target : List ℕ) → KeepsNames (λ n. n ≢ temp_name target) a b → SameFiles a b
+files_kept target kept = record { tells = kept.tells; files = λ m told x now q plain. kept.names m told x now q (plain_apart q (temp_name target) plain (temp_scratch target)) }
 
 pub files_none : {x y : Meaning} → LeavesOfDisk x y Nothing → LeavesOfDisk x y HasFiles
 files_none settled = weaker settled (λ d told n none. absurd none)

@@ -8,6 +8,7 @@ use Rattle.kl_store.specs.Disk.{Disk, IsImage, names_now}
 use Rattle.kl_intent.specs.declared.intent.Entry.{Entry}
 use Rattle.kl_intent.specs.IntentText.{slot_name}
 use Rattle.kl_install.specs.After.{after, temp_of, temp_name}
+use Rattle.kl_install.specs.Standing.{Stands, IsSound}
 
 -- the entries of a batch, and the slot in which its intent stands
 pub record Batch : Type 0 where
@@ -54,11 +55,14 @@ pub record IsStaged (b : Batch) (d : Disk) : Type 0 where
   pub quiet : (x : Names) → IsImage d x → IsQuiet (names_now d) x
 
 -- After recovery all targets are as in m or all as staged there, and the other files are as in m. Before it each target
--- is as in m or as recovery leaves it.
+-- is as in m or as recovery leaves it, the other files, the slot aside, are as in m, and the slot is free or holds the
+-- batch's own intent, of which each entry is sound.
 pub record IsOldOrNew (b : Batch) (m x : Names) : Type 0 where
   pub targets : Each (λ e. get (after b.slot x) e.target ≡ get m e.target) b.entries ⊎ Each (λ e. get (after b.slot x) e.target ≡ get m (temp_of e)) b.entries
   pub others : (n : List ℕ) → is_scratch n ≡ false → Each (λ e. n ≢ e.target) b.entries → get (after b.slot x) n ≡ get m n
   pub whole : Each (λ e. (get x e.target ≡ get m e.target) ⊎ (get x e.target ≡ get (after b.slot x) e.target)) b.entries
+  pub elsewhere : (n : List ℕ) → is_scratch n ≡ false → n ≢ intent_name b → Each (λ e. n ≢ e.target) b.entries → get x n ≡ get m n
+  pub slot : (get x (intent_name b) ≡ None) ⊎ (Stands b.slot b.entries x × Each (IsSound x) b.entries)
 
 -- all targets are as staged, the temporaries and the slot are gone, and the rest is as in m
 pub record IsDone (b : Batch) (m x : Names) : Type 0 where

@@ -1,4 +1,5 @@
 pub mod After
+pub mod Standing
 pub mod Batch
 pub mod Moving
 pub mod Committed

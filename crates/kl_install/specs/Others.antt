@@ -8,7 +8,7 @@ use Rattle.kl_store.specs.Meaning.{Meaning}
 use Rattle.kl_intent.specs.declared.intent.Entry.{Entry}
 use Rattle.kl_intent.specs.IntentText.{slot_name}
 use Rattle.kl_install.specs.Batch.{Batch, intent_name, intent_temp, IsAway}
-use Rattle.kl_install.specs.Recovered.{Stands}
+use Rattle.kl_install.specs.Standing.{Stands}
 
 -- where the store tells its names, each one that P is true of holds what it held; whether it tells them doesn't change
 pub record KeepsNames (P : List ℕ → Type 0) (before now : Meaning) : Type 0 where

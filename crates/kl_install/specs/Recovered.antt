@@ -9,25 +9,8 @@ use Rattle.kl_intent.specs.Outside.{IsFirstOutside}
 use Rattle.kl_install.specs.declared.recover.SlotEnd.{SlotEnd}
 use Rattle.kl_install.specs.declared.recover.SlotEnd.TheVariants.{Nothing, Completed, Foreign, BadIntent}
 use Rattle.kl_install.specs.After.{digest_at, temp_of}
+use Rattle.kl_install.specs.Standing.{Stands, IsSound}
 use Rattle.kl_install.specs.Batch.{Each, IsAway}
-
--- the intent of these entries stands in the slot
-pub record Stands (slot : Slot) (entries : List Entry) (m : Names) : Type 0 where
-  pub are : AreEntries entries
-  pub text : get m (slot_name slot) ≡ Some (intent_text slot entries)
-
--- the target is new, and its temporary is gone or new too
-pub record IsNew (m : Names) (e : Entry) : Type 0 where
-  pub target : digest_at m e.target ≡ Some e.new
-  pub temp : (get m (temp_of e) ≡ None) ⊎ (digest_at m (temp_of e) ≡ Some e.new)
-
--- the target is as it was noted, and its temporary is new
-pub record IsAsNoted (m : Names) (e : Entry) : Type 0 where
-  pub target : digest_at m e.target ≡ e.old
-  pub temp : digest_at m (temp_of e) ≡ Some e.new
-
-abbrev pub IsSound : Names → Entry → Type 0
-IsSound m e = IsNew m e ⊎ IsAsNoted m e
 
 -- Each entry of the slot's intent was sound. Now each target is new, the temporaries and the slot are gone, and all other
 -- names are as in m.

@@ -1,13 +1,12 @@
 // The batch's files take their places.
-ghost use Rattle.std.specs.Prelude.{◌≡◌, ◌≢◌, ◌≤◌, ◌+◌, ◌++◌, length, take, true};
+ghost use Rattle.std.specs.Prelude.{◌≡◌, ◌≢◌, ◌≤◌, ◌+◌, ◌++◌, length, take};
 ghost use Rattle.std.specs.List.{AllByRecursion};
 ghost use Rattle.std.specs.Option.{ForSome};
 ghost use Rattle.std.specs.FinMap.{remove};
 ghost use Rattle.kl_store.specs.Disk.{with_file, without, IsNear};
 ghost use Rattle.kl_store.specs.Images.{Leaves, LeavesOfDisk, Becomes, Ends};
 ghost use Rattle.kl_store.specs.Calls.{DoesIf, HasCause};
-ghost use Rattle.kl_store.specs.Names.{Rename, is_scratch};
-ghost use Rattle.kl_store.specs.Files.{SameFiles};
+ghost use Rattle.kl_store.specs.Names.{Rename};
 ghost use Rattle.kl_intent.specs.IntentText.{AreEntries, IsEntry, entries_of, intent_text, slot_name};
 ghost use Rattle.kl_install.specs.After.{temp_name, temp_of};
 ghost use Rattle.kl_install.specs.Batch.{batch, AreApart, IsAway, IsStaged};
@@ -118,7 +117,6 @@ fn write_intent<S: Store>(
 pub fn write_file<S: Store>(store: &mut S, name: &Name, bytes: &[u8]) -> Result<(), Failed>
     ensures done { Becomes (S.meaning store.old) (S.meaning store.new) result (with_file name.now bytes.now) }
     ensures images { LeavesOfDisk (S.meaning store.old) (S.meaning store.new) (IsNear name.now) }
-    ensures files { is_scratch name.now ≡ true → SameFiles (S.meaning store.old) (S.meaning store.new) }
     ensures others { KeepsNames (λ n. n ≢ name.now) (S.meaning store.old) (S.meaning store.new) }
     ensures cause { HasCause (S.faults store.old) (S.faults store.new) result }
 {

@@ -5,7 +5,7 @@ ghost use Rattle.std.specs.FinMap.{get};
 ghost use Rattle.std.specs.List.{AllByRecursion};
 ghost use Rattle.kl_store.specs.Calls.{HasCause, Holds};
 ghost use Rattle.kl_store.specs.Disk.{names_now};
-ghost use Rattle.kl_store.specs.Files.{SameFiles};
+ghost use Rattle.kl_store.specs.Files.{SameFiles, SameNames};
 ghost use Rattle.kl_store.specs.Images.{Leaves, LeavesOfDisk, Ends, IsSettledAt};
 ghost use Rattle.kl_intent.specs.IntentText.{is_target, is_new, slot_name, entries_of, IsEntry, AreDistinct};
 ghost use Rattle.kl_install.specs.Props.{each-prop, distinct-prop};
@@ -89,6 +89,7 @@ impl Installer {
 
         // Whatever the answer, no file has changed, and a crash leaves no file changed.
         ensures images { LeavesOfDisk (S.meaning store.old) (S.meaning store.new) HasFiles }
+        ensures quiet { Leaves (S.meaning store.old) (S.meaning store.new) SameNames }
         ensures files { SameFiles (S.meaning store.old) (S.meaning store.new) }
         ensures others { KeepsNames (λ n. n ≢ temp_name target.now) (S.meaning store.old) (S.meaning store.new) }
         ensures cause { HasCause (S.faults store.old) (S.faults store.new) result }

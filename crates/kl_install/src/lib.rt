@@ -9,6 +9,3 @@ mod stage;
 
 pub use installer::Installer;
 pub use recover::{SlotEnd, Unsound};
-
-#[cfg(test)]
-mod tests;

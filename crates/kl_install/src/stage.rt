@@ -4,9 +4,9 @@ ghost use Rattle.std.specs.Option.{ForSome};
 ghost use Rattle.std.specs.FinMap.{get};
 ghost use Rattle.sha2.specs.Sha256.{sha256};
 ghost use Rattle.kl_store.specs.Disk.{names_now};
-ghost use Rattle.kl_store.specs.Images.{LeavesOfDisk, Nothing};
+ghost use Rattle.kl_store.specs.Images.{Leaves, LeavesOfDisk, Nothing};
 ghost use Rattle.kl_store.specs.Calls.{HasCause};
-ghost use Rattle.kl_store.specs.Files.{SameFiles};
+ghost use Rattle.kl_store.specs.Files.{SameNames};
 ghost use Rattle.kl_store.specs.Names.{is_scratch};
 ghost use Rattle.kl_intent.specs.IntentText.{is_target, IsEntry};
 ghost use Rattle.kl_install.specs.After.{temp_name};
@@ -33,7 +33,7 @@ pub fn stage_file<S: Store>(
     ensures old { IfOk result (λ old. ForSome (S.meaning store.old).disk (λ d. old ≡ option_map sha256 (get (names_now d) target.now))) }
     ensures waits { OnOk result (ForSome (S.meaning store.old).disk (λ d. Waits (temp_name target.now) bytes.now (names_now d) (S.meaning store.new).disk)) }
     ensures images { LeavesOfDisk (S.meaning store.old) (S.meaning store.new) HasFiles }
-    ensures files { SameFiles (S.meaning store.old) (S.meaning store.new) }
+    ensures quiet { Leaves (S.meaning store.old) (S.meaning store.new) SameNames }
     ensures others { KeepsNames (λ n. n ≢ temp_name target.now) (S.meaning store.old) (S.meaning store.new) }
     ensures cause { HasCause (S.faults store.old) (S.faults store.new) result }
 {
@@ -48,7 +48,6 @@ fn settle_first<S: Store>(store: &mut S, first: bool) -> Result<(), Failed>
     requires quiet { first ≡ false → ForSome (S.meaning store.old).disk AllQuiet }
     ensures ready { OnOk result (ForSome (S.meaning store.old).disk (λ d. IsReadyDisk (names_now d) (S.meaning store.new).disk)) }
     ensures images { LeavesOfDisk (S.meaning store.old) (S.meaning store.new) Nothing }
-    ensures files { SameFiles (S.meaning store.old) (S.meaning store.new) }
     ensures names { (S.meaning store.new).names ≡ (S.meaning store.old).names }
     ensures cause { HasCause (S.faults store.old) (S.faults store.new) result }
 {
@@ -60,7 +59,6 @@ fn write_scratch<S: Store>(store: &mut S, name: &Name, bytes: &[u8]) -> Result<(
     requires { is_scratch name.now ≡ true }
     ensures waits { OnOk result (ForSome (S.meaning store.old).disk (λ d. AllQuiet d → Waits name.now bytes.now (names_now d) (S.meaning store.new).disk)) }
     ensures images { LeavesOfDisk (S.meaning store.old) (S.meaning store.new) HasFiles }
-    ensures files { SameFiles (S.meaning store.old) (S.meaning store.new) }
     ensures others { KeepsNames (λ n. n ≢ name.now) (S.meaning store.old) (S.meaning store.new) }
     ensures cause { HasCause (S.faults store.old) (S.faults store.new) result }
 {

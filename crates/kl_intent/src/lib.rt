@@ -11,6 +11,3 @@ mod words;
 pub use intent::{Entry, Intent, slot_name};
 pub use print::print_intent;
 pub use read::{IntentFault, read_intent};
-
-#[cfg(test)]
-mod tests;

@@ -15,6 +15,7 @@ abbrev pub AlwaysLeadsTo : Kit → List Input → Field → Target → Type 0
 AlwaysLeadsTo kit inputs f t = (img : List ℕ) (p : Placement) (gaps : Option Gaps) (order : List ℕ)
     → Carries img p kit inputs gaps order → FieldReaches img p (graph kit inputs) f t (is_slot_kind f.kind)
 
--- each field of a kit has one target, a piece and an offset there or a number, to which it leads in all images of the kit
+-- in all images of a kit each field of its graph leads to the target that the graph gives it: a piece and an offset there,
+-- or a number
 abbrev pub OneTarget : Type 0
-OneTarget = (kit : Kit) (inputs : List Input) → All (λ f. (t : Target) × AlwaysLeadsTo kit inputs f t) (graph kit inputs).fields
+OneTarget = (kit : Kit) (inputs : List Input) → All (λ f. AlwaysLeadsTo kit inputs f f.target) (graph kit inputs).fields

@@ -14,6 +14,3 @@ mod step;
 pub use fuse::Fuse;
 pub use lists::{ListEntropy, VecSink};
 pub use mem::MemStore;
-
-#[cfg(test)]
-mod tests;

@@ -5,11 +5,10 @@ use Rattle.sha2.specs.Sha256.{sha256}
 use Rattle.kl_store.specs.Names.{Names}
 use Rattle.kl_store.specs.Disk.{names_now}
 use Rattle.kl_store.proofs.Moments.{told_names}
-use Rattle.kl_store.proofs.SameFilesLemmas.{same_files_trans, stays_files}
 use Rattle.kl_install.specs.After.{temp_name}
 use Rattle.kl_install.specs.Staging.{Waits}
 use Rattle.kl_install.proofs.Named.{target_short}
-use Rattle.kl_install.proofs.Stagings.{files_then}
+use Rattle.kl_install.proofs.Stagings.{files_then, quiet_then}
 use Rattle.kl_install.proofs.Untouched.{keeps_trans, kept_names}
 use Rattle.kl_install.proofs.stage.stage_file.Goals as goal
 
@@ -19,14 +18,14 @@ temp_name-requires g c = target_short c.args.target.now c.requires.target
 pub returns-in_err-write_scratch-clause-images : goal.returns-in_err-write_scratch-clause-images
 returns-in_err-write_scratch-clause-images g c = files_then c.settle_first.ensures.images c.in_ok-settle_first.ensures.ready c.digest_file.ensures.still c.write_scratch.ensures.images
 
-pub returns-in_err-write_scratch-clause-files : goal.returns-in_err-write_scratch-clause-files
-returns-in_err-write_scratch-clause-files g c = same_files_trans c.settle_first.ensures.files (same_files_trans (stays_files c.digest_file.ensures.still) c.write_scratch.ensures.files)
+pub returns-in_err-write_scratch-clause-quiet : goal.returns-in_err-write_scratch-clause-quiet
+returns-in_err-write_scratch-clause-quiet g c = quiet_then c.settle_first.ensures.images c.in_ok-settle_first.ensures.ready c.digest_file.ensures.still c.write_scratch.ensures.images
+
+pub returns-clause-quiet : goal.returns-clause-quiet
+returns-clause-quiet g c = quiet_then c.settle_first.ensures.images c.in_ok-settle_first.ensures.ready c.digest_file.ensures.still c.write_scratch.ensures.images
 
 pub returns-clause-images : goal.returns-clause-images
 returns-clause-images g c = files_then c.settle_first.ensures.images c.in_ok-settle_first.ensures.ready c.digest_file.ensures.still c.write_scratch.ensures.images
-
-pub returns-clause-files : goal.returns-clause-files
-returns-clause-files g c = same_files_trans c.settle_first.ensures.files (same_files_trans (stays_files c.digest_file.ensures.still) c.write_scratch.ensures.files)
 
 pub returns-clause-old : goal.returns-clause-old
 returns-clause-old g c = λ d told.

@@ -8,7 +8,7 @@ use Rattle.kl_base.specs.declared.class.Slot.{Slot}
 use Rattle.kl_intent.specs.IntentText.{entries_of, slot_name}
 use Rattle.kl_install.specs.Batch.{batch, IsStaged}
 use Rattle.kl_install.specs.Installers.{staged, batch_of}
-use Rattle.kl_install.proofs.Stagings.{each_more, distinct_more, kept_room, stages, still_free}
+use Rattle.kl_install.proofs.Stagings.{files_kept, each_more, distinct_more, kept_room, stages, still_free}
 use Rattle.kl_install.proofs.installer.Installer.stage.Goals as goal
 
 pub invariant_of-self-2-clause-each : goal.invariant_of-self-2-clause-each
@@ -37,3 +37,9 @@ returns-clause-free g c =
 
 pub invariant_of-self-2-clause-room : goal.invariant_of-self-2-clause-room
 invariant_of-self-2-clause-room g c = kept_room c.args.self.now.buf.len c.stage_file.new.buf c.args.self.now.buf.items (ap length (sym c.deref_mut.ensures.value) ∙ c.deref_mut.ensures.len) (c.stage_file.auto.buf ∙ ap length c.deref_mut.ensures.value) c.args.self.now.room
+
+pub returns-in_err-old-clause-files : goal.returns-in_err-old-clause-files
+returns-in_err-old-clause-files g c = files_kept c.args.target.now c.stage_file.ensures.others
+
+pub returns-clause-files : goal.returns-clause-files
+returns-clause-files g c = files_kept c.args.target.now c.stage_file.ensures.others

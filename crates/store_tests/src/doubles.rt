@@ -1,5 +1,7 @@
-use crate::{Fuse, ListEntropy, MemStore, VecSink};
+ghost use Rattle.std.specs.Prelude.{◌≢◌};
+
 use kl_base::Name;
+use kl_mem::{Fuse, ListEntropy, MemStore, VecSink};
 use kl_store::{Entropy, Failed, Sink, Store, WholeFault, read_whole};
 use std::alloc::Global;
 use std::test::Fail;
@@ -162,6 +164,32 @@ fn passes_some_calls_on(rt: HostRuntime) -> Result<(), Fail> {
             &[(0, None, None), (5, Some(b"new"), None)]
         )?
     );
+    Ok(())
+}
+
+/// Makes each of the seven calls once.
+fn call_each<S: Store>(store: &mut S, a: &Name, b: &Name) -> Result<(), Failed>
+    requires { a.now ≢ b.now }
+{
+    store.create(a)?;
+    store.append(a, b"new")?;
+    store.size(a)?;
+    store.read(a, 0, &mut [0; 3])?;
+    store.rename(a, b)?;
+    store.remove(b)?;
+    store.settle()
+}
+
+#[test]
+fn passes_each_call_on_once(rt: HostRuntime) -> Result<(), Fail> {
+    let (a, b) = (named(b"/a")?, named(b"/b")?);
+    assert_ne!(rt; a, b);
+    // The inner store counts its calls: the eighth fails, which is the one after the seven.
+    let mut inner = MemStore::new(rt.alloc());
+    inner.fail_at(7, false)?;
+    let mut store = Fuse::new(inner, 8);
+    assert_eq!(rt; call_each(&mut store, &a, &b), Ok(()));
+    assert_eq!(rt; store.settle(), Err(Failed));
     Ok(())
 }
 

@@ -1,5 +1,5 @@
-use crate::{IntentFault, print_intent, read_intent, slot_name};
 use kl_base::Slot;
+use kl_intent::{print_intent, read_intent, slot_name};
 use std::alloc::Global;
 use std::test::Fail;
 

@@ -1,5 +1,5 @@
-use crate::{RecordFault, digest_file, read_record, record_text, sha256};
 use kl_base::Name;
+use kl_digest::{RecordFault, digest_file, read_record, record_text, sha256};
 use kl_store::{Failed, Store};
 use std::test::Fail;
 

@@ -3,9 +3,9 @@ ghost use Rattle.kl_store.specs.Calls.{Holds};
 ghost use Rattle.kl_intent.specs.IntentText.{is_target, slot_name};
 ghost use Rattle.kl_install.specs.Installers.{staged, slot_of, is_ready};
 
-use crate::{Installer, SlotEnd};
 use kl_base::{Name, Slot};
 use kl_digest::sha256;
+use kl_install::{Installer, SlotEnd};
 use kl_intent::slot_name;
 use kl_mem::{Fuse, MemStore};
 use kl_store::{Failed, Store};
