@@ -20,8 +20,10 @@ use Rattle.kl_intent.specs.declared.intent.Entry.{Entry}
 use Rattle.kl_intent.specs.IntentText.{slot_name, IsEntry, is_new, AreDistinct}
 use Rattle.kl_install.specs.After.{temp_name, temp_of}
 use Rattle.kl_install.specs.Batch.{Each, Batch, batch, IsReady, IsStaged}
-use Rattle.kl_install.specs.Others.{KeepsNames}
-use Rattle.kl_install.specs.Staging.{IsReadyDisk, HasFiles, IsWritten, Waits, AllQuiet, CanGoOn, Stages}
+use Rattle.kl_store.specs.Files.{KeepsNames}
+use Rattle.kl_install.specs.Staging.{IsReadyDisk, Waits, AllQuiet, CanGoOn, Stages}
+use Rattle.kl_store.specs.Files.{HasFiles, IsWritten}
+use Rattle.kl_store.proofs.KeptNames.{scratch_files}
 use Rattle.kl_install.proofs.Named.{plain_apart, temps_apart, temp_scratch, target_plain, slot_plain, differs}
 use Rattle.kl_intent.proofs.Cuts.{and_left, and_right}
 
@@ -49,7 +51,7 @@ files_then settled ready still written = leaves_on (weaker (leaves_still settled
 
 -- where no name but a temporary changes, the files stay
 pub files_kept : {a b : Meaning} (target : List ℕ) → KeepsNames (λ n. n ≢ temp_name target) a b → SameFiles a b
-files_kept target kept = record { tells = kept.tells; files = λ m told x now q plain. kept.names m told x now q (plain_apart q (temp_name target) plain (temp_scratch target)) }
+files_kept target kept = scratch_files (temp_name target) (temp_scratch target) kept
 
 pub files_none : {x y : Meaning} → LeavesOfDisk x y Nothing → LeavesOfDisk x y HasFiles
 files_none settled = weaker settled (λ d told n none. absurd none)

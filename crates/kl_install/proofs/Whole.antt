@@ -21,7 +21,7 @@ use Rattle.std.specs.Option.{ForSome}
 use Rattle.kl_install.specs.Committed.{Commits}
 use Rattle.kl_install.specs.Moving.{IsPlaced, IsWaiting, IsMoving, AreMoved, HasIntent, MayIntend, AllWait, CanMove, CanRemove}
 use Rattle.kl_install.proofs.Recovered.{Fits, each_map, each_both, quiet_old, moving_new, done_new}
-use Rattle.kl_install.proofs.Steps.{written_names, written_other}
+use Rattle.kl_store.proofs.WrittenFiles.{written_names, written_other}
 
 turned : (a b : List ℕ) → a ≢ b → b ≢ a
 turned a b p e = p (sym e)

@@ -6,7 +6,7 @@ use Rattle.sha2.specs.Sha256.{sha256}
 use Rattle.kl_store.specs.Names.{Names}
 use Rattle.kl_store.specs.Disk.{Disk, IsImage, names_now}
 use Rattle.kl_store.specs.Meaning.{Meaning}
-use Rattle.kl_store.specs.Files.{SameNames}
+use Rattle.kl_store.specs.Files.{IsWritten}
 use Rattle.kl_intent.specs.declared.intent.Entry.{Entry}
 use Rattle.kl_install.specs.After.{temp_name}
 use Rattle.kl_install.specs.Batch.{Batch, batch, IsStaged, IsQuiet}
@@ -14,17 +14,6 @@ use Rattle.kl_install.specs.Batch.{Batch, batch, IsStaged, IsQuiet}
 -- a batch that has files is staged so far, where the store tells its disk
 abbrev pub CanGoOn : Batch → Meaning → Type 0
 CanGoOn b before = 0 < length b.entries → ForSome before.disk (IsStaged b)
-
--- the name holds the bytes, and each other name holds what it held
-pub record IsWritten (name bytes : List ℕ) (m n : Names) : Type 0 where
-  pub here : get n name ≡ Some bytes
-  pub others : (q : List ℕ) → q ≢ name → get n q ≡ get m q
-
--- the files of an image of the disk, scratch names aside
-pub record HasFiles (d : Disk) (x : Names) : Type 0 where
-  pub image : Names
-  pub was : IsImage d image
-  pub same : SameNames image x
 
 -- every image has the files of the names
 abbrev pub AllQuiet : Disk → Type 0

@@ -11,12 +11,13 @@ ghost use Rattle.kl_intent.specs.IntentText.{AreEntries, IsEntry, entries_of, in
 ghost use Rattle.kl_install.specs.After.{temp_name, temp_of};
 ghost use Rattle.kl_install.specs.Batch.{batch, AreApart, IsAway, IsStaged};
 ghost use Rattle.kl_install.specs.Committed.{Commits};
-ghost use Rattle.kl_install.specs.Others.{KeepsNames, IsOther};
+ghost use Rattle.kl_store.specs.Files.{KeepsNames};
+ghost use Rattle.kl_install.specs.Others.{IsOther};
 ghost use Rattle.kl_install.specs.Moving.{IsMoving, AreMoved, HasIntent, MayIntend, CanMove, CanRemove};
 
 use kl_base::{Name, Slot};
 use kl_intent::{Entry, Intent, print_intent, slot_name};
-use kl_store::{Failed, Store};
+use kl_store::{Failed, Store, write_whole};
 
 // Puts each staged file in its target's place.
 pub fn install<S: Store>(store: &mut S, intent: &Intent) -> Result<(), Failed>
@@ -107,21 +108,10 @@ fn write_intent<S: Store>(
     ensures others { KeepsNames (λ n. (n ≢ slot.now) × (n ≢ temp.now)) (S.meaning store.old) (S.meaning store.new) }
     ensures cause { HasCause (S.faults store.old) (S.faults store.new) result }
 {
-    write_file(store, temp, text)?;
+    write_whole(store, temp, text)?;
     store.settle()?;
     store.rename(temp, slot)?;
     store.settle()
-}
-
-// A new file with these bytes, not yet on the disk.
-pub fn write_file<S: Store>(store: &mut S, name: &Name, bytes: &[u8]) -> Result<(), Failed>
-    ensures done { Becomes (S.meaning store.old) (S.meaning store.new) result (with_file name.now bytes.now) }
-    ensures images { LeavesOfDisk (S.meaning store.old) (S.meaning store.new) (IsNear name.now) }
-    ensures others { KeepsNames (λ n. n ≢ name.now) (S.meaning store.old) (S.meaning store.new) }
-    ensures cause { HasCause (S.faults store.old) (S.faults store.new) result }
-{
-    store.create(name)?;
-    store.append(name, bytes)
 }
 
 // Each file has its place, on the disk.

@@ -9,7 +9,8 @@ ghost use Rattle.kl_store.specs.Calls.{HasCause, Holds, Stays};
 ghost use Rattle.kl_intent.specs.IntentText.{IsEntry, AreEntries, entries_of, slot_name};
 ghost use Rattle.kl_install.specs.After.{after, all_moved, same_slot};
 ghost use Rattle.kl_install.specs.Batch.{AreApart, IsAway};
-ghost use Rattle.kl_install.specs.Others.{KeepsNames, IsNoneOf};
+ghost use Rattle.kl_store.specs.Files.{KeepsNames};
+ghost use Rattle.kl_install.specs.Others.{IsNoneOf};
 ghost use Rattle.kl_install.specs.Recovery.{slot_end, entries_end, checked_end, is_clear, IsPartMoved};
 ghost use Rattle.kl_install.specs.Finding.{IsFound, FoundFits, HasIntentOf};
 

@@ -6,18 +6,17 @@ ghost use Rattle.sha2.specs.Sha256.{sha256};
 ghost use Rattle.kl_store.specs.Disk.{names_now};
 ghost use Rattle.kl_store.specs.Images.{Leaves, LeavesOfDisk, Nothing};
 ghost use Rattle.kl_store.specs.Calls.{HasCause};
-ghost use Rattle.kl_store.specs.Files.{SameNames};
+ghost use Rattle.kl_store.specs.Files.{HasFiles, KeepsNames, SameNames};
 ghost use Rattle.kl_store.specs.Names.{is_scratch};
 ghost use Rattle.kl_intent.specs.IntentText.{is_target, IsEntry};
 ghost use Rattle.kl_install.specs.After.{temp_name};
-ghost use Rattle.kl_install.specs.Others.{KeepsNames};
-ghost use Rattle.kl_install.specs.Staging.{AllQuiet, HasFiles, Waits, IsReadyDisk};
+ghost use Rattle.kl_install.specs.Staging.{AllQuiet, Waits, IsReadyDisk};
 
-use crate::install::{temp_name, write_file};
+use crate::install::temp_name;
 use kl_base::Name;
 use kl_digest::digest_file;
 use kl_intent::Entry;
-use kl_store::{Failed, Store};
+use kl_store::{Failed, Store, write_whole};
 
 // Writes the bytes under the target's temporary, and gives the digest of what the target held.
 pub fn stage_file<S: Store>(
@@ -62,7 +61,7 @@ fn write_scratch<S: Store>(store: &mut S, name: &Name, bytes: &[u8]) -> Result<(
     ensures others { KeepsNames (λ n. n ≢ name.now) (S.meaning store.old) (S.meaning store.new) }
     ensures cause { HasCause (S.faults store.old) (S.faults store.new) result }
 {
-    write_file(store, name, bytes)
+    write_whole(store, name, bytes)
 }
 
 // The entry of a target that held a file of the old digest, if any, and is to hold one of the new digest.

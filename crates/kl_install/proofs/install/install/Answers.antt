@@ -3,7 +3,7 @@ use Rattle.kl_intent.specs.IntentText.{entries_of}
 use Rattle.kl_install.specs.Batch.{batch}
 use Rattle.kl_install.proofs.Named.{is_batch, apart_from}
 use Rattle.kl_install.proofs.Whole.{first_images, second_images, third_images, can_move, can_remove, all_ends, commits}
-use Rattle.kl_install.proofs.Untouched.{keeps_trans, keeps_fewer}
+use Rattle.kl_store.proofs.KeptNames.{keeps_trans, keeps_fewer}
 use Rattle.kl_install.proofs.install.install.Goals as goal
 
 pub move_batch-requires-clause-apart : goal.move_batch-requires-clause-apart

@@ -6,7 +6,8 @@ use Rattle.kl_store.proofs.Moments.{leaves_none, leaves_move, told_settled}
 use Rattle.kl_intent.proofs.Grammar.{entry_at}
 use Rattle.kl_install.specs.After.{temp_of}
 use Rattle.kl_install.proofs.Moves.{split, entry_way, way_moving, at_next, at_first, at_end}
-use Rattle.kl_install.proofs.Untouched.{kept_names, keeps_trans, place_names, settles_names}
+use Rattle.kl_store.proofs.KeptNames.{kept_names, keeps_trans, settles_names}
+use Rattle.kl_install.proofs.Untouched.{place_names}
 use Rattle.kl_install.proofs.install.move_all.Goals as goal
 
 pub take_place-requires : goal.take_place-requires

@@ -7,7 +7,7 @@ use Rattle.kl_store.proofs.Moments.{told_names, told_before, stays_then, weaker,
 use Rattle.kl_intent.specs.IntentText.{slot_name}
 use Rattle.kl_install.specs.Moving.{CanRemove}
 use Rattle.kl_install.proofs.Redone.{foreign_after, sound_after, part_after, removed_after, settled_disk, slot_there}
-use Rattle.kl_install.proofs.Untouched.{keeps_trans, keeps_fewer, kept_names}
+use Rattle.kl_store.proofs.KeptNames.{keeps_trans, keeps_fewer, kept_names}
 use Rattle.kl_install.proofs.recover.finish.Goals as goal
 
 pub returns-in-Some-clause-done : goal.returns-in-Some-clause-done

@@ -6,7 +6,8 @@ use Rattle.kl_store.proofs.Moments.{leaves_none, leaves_move, told_settled}
 use Rattle.kl_intent.proofs.Grammar.{entry_at}
 use Rattle.kl_install.specs.After.{temp_of}
 use Rattle.kl_install.proofs.Redone.{again_first, again_next, again_end, part_moved}
-use Rattle.kl_install.proofs.Untouched.{kept_names, keeps_trans, place_names, settles_names}
+use Rattle.kl_store.proofs.KeptNames.{kept_names, keeps_trans, settles_names}
+use Rattle.kl_install.proofs.Untouched.{place_names}
 use Rattle.kl_install.proofs.recover.move_again.Goals as goal
 
 pub take_place-requires : goal.take_place-requires

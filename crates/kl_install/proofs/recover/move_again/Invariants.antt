@@ -5,7 +5,7 @@ use Rattle.kl_store.specs.Images.{Leaves}
 use Rattle.kl_install.specs.Recovery.{IsPartMoved}
 use Rattle.kl_install.proofs.Redone.{IsAgainAt}
 use Rattle.kl_install.specs.Batch.{IsAway}
-use Rattle.kl_install.specs.Others.{KeepsNames}
+use Rattle.kl_store.specs.Files.{KeepsNames}
 use Rattle.kl_install.proofs.recover.move_again.Given as goal
 
 abbrev pub invariant-loop-entry : goal.invariant-loop-entry

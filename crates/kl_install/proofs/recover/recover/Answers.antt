@@ -6,7 +6,7 @@ use Rattle.kl_store.proofs.Moments.{told_names, told_before, told_settled, same_
 use Rattle.kl_intent.specs.IntentText.{entries_of}
 use Rattle.kl_install.specs.Finding.{FoundFits, HasIntentOf}
 use Rattle.kl_install.proofs.Redone.{batch_found, nothing_after, bad_after}
-use Rattle.kl_install.proofs.Untouched.{keeps_trans, keeps_fewer, kept_names, settles_names}
+use Rattle.kl_store.proofs.KeptNames.{keeps_trans, keeps_fewer, kept_names, settles_names}
 use Rattle.kl_install.proofs.Ended.{stands_found}
 use Rattle.kl_install.proofs.recover.recover.Goals as goal
 

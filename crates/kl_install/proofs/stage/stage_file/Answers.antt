@@ -9,7 +9,7 @@ use Rattle.kl_install.specs.After.{temp_name}
 use Rattle.kl_install.specs.Staging.{Waits}
 use Rattle.kl_install.proofs.Named.{target_short}
 use Rattle.kl_install.proofs.Stagings.{files_then, quiet_then}
-use Rattle.kl_install.proofs.Untouched.{keeps_trans, kept_names}
+use Rattle.kl_store.proofs.KeptNames.{keeps_trans, kept_names}
 use Rattle.kl_install.proofs.stage.stage_file.Goals as goal
 
 pub temp_name-requires : goal.temp_name-requires

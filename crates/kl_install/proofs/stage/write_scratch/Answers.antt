@@ -5,7 +5,7 @@ use Rattle.kl_store.specs.Names.{Names}
 use Rattle.kl_store.specs.Disk.{with_file, names_now}
 use Rattle.kl_store.proofs.Moments.{weaker}
 use Rattle.kl_install.proofs.Named.{plain_apart}
-use Rattle.kl_install.proofs.Steps.{written, written_names, written_other}
+use Rattle.kl_store.proofs.WrittenFiles.{is_written, near_files}
 use Rattle.kl_install.proofs.Whole.{quiet_written}
 use Rattle.kl_install.proofs.stage.write_scratch.Goals as goal
 
@@ -13,12 +13,12 @@ pub returns-clause-waits : goal.returns-clause-waits
 returns-clause-waits g c =
     let n = c.args.name.now in
     let b = c.args.bytes.now in
-    on_ok_weaker c.write_file.result (λ done d told quiet. record {
+    on_ok_weaker c.write_whole.result (λ done d told quiet. record {
       now = with_file n b d;
       told = done d told;
-      written = record { here = written d n b; others = λ q other. ap (λ (m : Names). get m q) (written_names d n b) ∙ written_other (names_now d) n b q other };
+      written = is_written d n b;
       quiet = quiet_written d n b c.requires quiet;
-    }) c.write_file.ensures.done
+    }) c.write_whole.ensures.done
 
 pub returns-clause-images : goal.returns-clause-images
-returns-clause-images g c = weaker c.write_file.ensures.images (λ d told x near. record { image = near.near; was = near.image; same = λ q plain. near.others q (plain_apart q c.args.name.now plain c.requires) })
+returns-clause-images g c = weaker c.write_whole.ensures.images (λ d told x near. near_files c.args.name.now d x c.requires near)
