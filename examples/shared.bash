@@ -1,7 +1,6 @@
 # What the scripts of the examples have in common.
 
 root=$(cd "$(dirname "${BASH_SOURCE[0]}")/.." && pwd)
-built=$root/crates/kl_cli/out/kl_cli
 relink=$root/build/relink
 
 fail() {
@@ -22,28 +21,30 @@ need() {
     done
 }
 
-# Whether the program was built, and no source is newer than it.
+# is_built PROGRAM: whether it was built, and no source is newer than it.
 is_built() {
+    local built=$root/crates/$1/out/$1
     [ -x "$built" ] || return 1
     [ -z "$(find "$root/crates.txt" "$root/crates" -path '*/out' -prune -o \
         -type f \( -name '*.rt' -o -name '*.antt' -o -name crates.txt \) -newer "$built" -print -quit)" ]
 }
 
-# Proves and builds the program where that is needed, and copies it to build/relink. `rt run` also runs it, here without words.
-build_relink() {
-    local log=$root/build/rt.log
+# build_program PROGRAM: proves and builds it where that is needed, and copies it to build/PROGRAM. `rt run` also runs it, here
+# without words.
+build_program() {
+    local program=$1 built=$root/crates/$1/out/$1 log=$root/build/rt.log
     mkdir -p "$root/build"
-    if ! is_built; then
+    if ! is_built "$program"; then
         need rt
-        echo "proving and building relink, which takes some minutes the first time"
+        echo "proving and building $program, which takes some minutes the first time"
         rm -f "$built"
-        (cd "$root/crates/kl_cli" && rt run --) >"$log" 2>&1 </dev/null || true
+        (cd "$root/crates/$program" && rt run --) >"$log" 2>&1 </dev/null || true
         if [ ! -x "$built" ]; then
             tail -n 20 "$log" >&2
-            fail "relink was not built: build/rt.log, which ends with the lines above, says why"
+            fail "$program was not built: build/rt.log, which ends with the lines above, says why"
         fi
     fi
-    cp "$built" "$relink"
+    cp "$built" "$root/build/$program"
 }
 
 # set_up NAME TOOL..: with these tools there, builds the program and makes build/NAME/kit anew, with the text of the kit. To a
@@ -52,7 +53,7 @@ set_up() {
     example=$1
     shift
     need "$@"
-    build_relink
+    build_program relink
     folder=$root/build/$example
     kit=$folder/kit
     rm -rf "$folder"

@@ -1,0 +1,48 @@
+-- What an adapter has noted of the host's disk.
+use Rattle.std.specs.Prelude.{ℕ, ◌≡◌, Bool, true, false, List, [], nat_eq, bytes_eq}
+use Rattle.std.specs.List.{list_any}
+use Rattle.std.specs.Cmp.Lexicographic.{pointwise}
+use Rattle.kl_host.specs.Paths.{folder_of}
+use Rattle.kl_host.specs.declared.notes.Notes.{Notes}
+
+-- the name is one of these
+abbrev pub is_among : List ℕ → List (List ℕ) → Bool
+is_among name names = list_any (λ other. pointwise nat_eq other name) names
+
+-- the names whose files are to be synced
+abbrev pub files_to_sync : Notes → List (List ℕ)
+files_to_sync n = n.written.items
+
+-- the names whose folders are to be synced
+abbrev pub folders_to_sync : Notes → List (List ℕ)
+folders_to_sync n = n.changed.items
+
+-- a sync has failed
+abbrev pub is_broken : Notes → Bool
+is_broken n = n.broken
+
+-- the folder of the name was asked for, and so was synced
+abbrev pub is_known : List ℕ → Notes → Bool
+is_known name n = list_any (λ other. bytes_eq (folder_of other) (folder_of name)) n.asked.items
+
+-- the file of the name was asked for, and so was synced
+abbrev pub is_checked : List ℕ → Notes → Bool
+is_checked name n = is_among name n.checked.items
+
+-- nothing is left to sync, and no sync has failed
+pub record IsSettled (n : Notes) : Type 0 where
+  pub files : files_to_sync n ≡ []
+  pub folders : folders_to_sync n ≡ []
+  pub whole : is_broken n ≡ false
+
+-- what was to be synced still is, what was synced is known, and a sync that failed stays so
+pub record Keeps (old new : Notes) : Type 0 where
+  pub files : (name : List ℕ) → is_among name (files_to_sync old) ≡ true → is_among name (files_to_sync new) ≡ true
+  pub folders : (name : List ℕ) → is_among name (folders_to_sync old) ≡ true → is_among name (folders_to_sync new) ≡ true
+  pub known : (name : List ℕ) → is_known name old ≡ true → is_known name new ≡ true
+  pub broken : is_broken old ≡ true → is_broken new ≡ true
+
+-- the file of the name is to be synced, and the folder that it lies in
+pub record IsNoted (name : List ℕ) (n : Notes) : Type 0 where
+  pub file : is_among name (files_to_sync n) ≡ true
+  pub folder : is_among name (folders_to_sync n) ≡ true

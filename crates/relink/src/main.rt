@@ -1,0 +1,43 @@
+//! `relink`: links a kernel anew from kept object files.
+#![tactic(auto)]
+
+ghost use Rattle.std.specs.Prelude.{◌≡◌};
+ghost use Rattle.std.specs.Process.{exit_status};
+
+use kl_cli::{Exit, run};
+use kl_host::{HostEntropy, HostSink, HostStore};
+use kl_jobs::Cause;
+use std::env;
+use std::io::{self, ErrorKind};
+use std::process::ExitCode;
+use std::rt::Env;
+
+fn main(rt: HostRuntime) -> ExitCode {
+    let alloc = rt.alloc();
+    let words = match words_after_name(&rt) {
+        Ok(words) => words,
+        Err(e) if e.kind() == ErrorKind::OutOfMemory => return code_of(&Exit::of(Cause::NoMemory)),
+        // a word that isn't UTF-8 is no command
+        Err(_) => Vec::new(alloc),
+    };
+    let mut store = HostStore::new(&rt, alloc);
+    let mut entropy = HostEntropy::new(&rt);
+    let mut out = HostSink::new(&rt);
+    code_of(&run(alloc, &words, &mut store, &mut entropy, &mut out))
+}
+
+/// The status of the process.
+fn code_of(exit: &Exit) -> ExitCode
+    ensures { exit_status result ≡ exit.now.status }
+{
+    ExitCode::from(exit.status)
+}
+
+/// The words of the command line after the program's name.
+fn words_after_name<R: Env + AllocGlobal>(rt: &R) -> io::Result<Vec<Vec<u8>>> {
+    let mut words = Vec::new(rt.alloc());
+    for word in env::args(rt)?.skip(1) {
+        words.push(word.into_bytes())?;
+    }
+    Ok(words)
+}
