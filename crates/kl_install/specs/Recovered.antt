@@ -10,6 +10,7 @@ use Rattle.kl_install.specs.declared.recover.SlotEnd.{SlotEnd}
 use Rattle.kl_install.specs.declared.recover.SlotEnd.TheVariants.{Nothing, Completed, Foreign, BadIntent}
 use Rattle.kl_install.specs.After.{digest_at, temp_of}
 use Rattle.kl_install.specs.Batch.{Each, IsAway}
+use Rattle.kl_base.specs.declared.limits.TheConstants.{INTENT_LIMIT}
 
 -- the intent of these entries stands in the slot
 pub record Stands (slot : Slot) (entries : List Entry) (m : Names) : Type 0 where
@@ -56,8 +57,8 @@ pub record IsForeign (slot : Slot) (number : ℕ) (target temp : Option (List �
 -- the text is that of no intent, and this is its first line outside the grammar, 0 where it is too long
 pub record IsNoIntent (text : List ℕ) (line : ℕ) : Type 0 where
   pub none : (slot : Slot) (entries : List Entry) → AreEntries entries → text ≢ intent_text slot entries
-  pub long : 4096 < length text → line ≡ 0
-  pub outside : length text ≤ 4096 → IsFirstOutside text line
+  pub long : INTENT_LIMIT < length text → line ≡ 0
+  pub outside : length text ≤ INTENT_LIMIT → IsFirstOutside text line
 
 -- the text is that of an intent of the other slot, which its second line names
 pub record IsOfOther (slot : Slot) (text : List ℕ) (line : ℕ) : Type 0 where
