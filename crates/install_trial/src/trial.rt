@@ -4,7 +4,7 @@ ghost use Rattle.kl_store.specs.Calls.{HasCause, Holds, Rose};
 ghost use Rattle.kl_intent.specs.IntentText.{slot_name};
 ghost use Rattle.kl_install.specs.Installers.{staged, slot_of, is_ready};
 
-use kl_base::{Name, NoMemory, Slot};
+use kl_base::{INPUT_LIMIT, Name, NoMemory, Slot};
 use kl_digest::{record_text, sha256};
 use kl_install::{Installer, SlotEnd};
 use kl_intent::slot_name;
@@ -34,7 +34,7 @@ pub enum End {
     NoMemory,
     /// A call on the store failed, as each does past the number of calls.
     Stopped,
-    /// There is no `/kernel.new`, or it is longer than 1 MiB.
+    /// There is no `/kernel.new`, or it is longer than 64 MiB.
     NoKernel,
     /// An intent stands in the slot, so nothing was installed.
     Pending,
@@ -42,9 +42,6 @@ pub enum End {
     /// The recovery came to its end.
     Recovered(SlotEnd),
 }
-
-/// The longest kernel that is installed, in bytes.
-const KERNEL_LIMIT: u64 = 1 << 20;
 
 impl Trial {
     /// The trial of the words `install`, `install N`, `recover` or `recover N`, where N is a number of calls.
@@ -163,7 +160,7 @@ fn install<S: Store>(alloc: Global, store: &mut S) -> Result<End, End>
     if store.size(&slot_name(Slot::Kernel))?.is_some() {
         return Ok(End::Pending);
     }
-    let kernel = read_whole(alloc, store, &new_kernel(), KERNEL_LIMIT)?;
+    let kernel = read_whole(alloc, store, &new_kernel(), INPUT_LIMIT)?;
     let mut installer = Installer::new(alloc, Slot::Kernel)?;
     let record = record_text(&sha256(&kernel));
     replace(&mut installer, store, &kernel, &record)?;

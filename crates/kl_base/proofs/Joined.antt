@@ -6,6 +6,7 @@ use Rattle.std.proofs.lemmas.Bool.{eqb-true}
 use Rattle.std.proofs.lemmas.List.Folds.{list_all-append}
 use Rattle.kl_base.specs.Names.{name_fault, stands, any_suffix, slash_then, ends_part, dots, is_path_byte}
 use Rattle.kl_base.specs.declared.name.NameFault.TheVariants.{Empty, TooLong, NotAbsolute, BadByte, EmptyPart, DotPart}
+use Rattle.kl_base.specs.declared.limits.TheConstants.{NAME_LIMIT}
 
 -- what no fault says
 pub record IsSound (n : List ℕ) : Type 0 where
@@ -73,17 +74,17 @@ begins : (b : ℕ) → not (b == 47) ≡ false → b ≡ 47
 begins b e = eqb-true b 47 (not_false (b == 47) e)
 
 -- two names joined are a name
-pub name_fault-append : (a b : List ℕ) → name_fault a ≡ None → name_fault b ≡ None → length a + length b ≤ 255 → name_fault (a ++ b) ≡ None
+pub name_fault-append : (a b : List ℕ) → name_fault a ≡ None → name_fault b ≡ None → length a + length b ≤ NAME_LIMIT → name_fault (a ++ b) ≡ None
 name_fault-append a b na nb h = go a b (sound-none a na) (sound-none b nb) h
   where
-    go : (a b : List ℕ) → IsSound a → IsSound b → length a + length b ≤ 255 → name_fault (a ++ b) ≡ None
+    go : (a b : List ℕ) → IsSound a → IsSound b → length a + length b ≤ NAME_LIMIT → name_fault (a ++ b) ≡ None
     go [] b s t h = let e = s.absolute in cc
     go a [] s t h = let e = t.absolute in cc
     go (x ∷ xs) (y ∷ ys) s t h =
         let slash : y ≡ 47 = begins y t.absolute in
         none-sound (x ∷ xs ++ y ∷ ys) (record {
           empty = ne_eqb (length (x ∷ xs ++ y ∷ ys)) 0 (λ e. omega (arith, e));
-          long = le-ltb 255 (length (x ∷ xs ++ y ∷ ys)) (omega (arith, length-append (x ∷ xs) (y ∷ ys)));
+          long = le-ltb NAME_LIMIT (length (x ∷ xs ++ y ∷ ys)) (omega (arith, length-append (x ∷ xs) (y ∷ ys)));
           absolute = s.absolute;
           bytes = rw (list_all-append is_path_byte (x ∷ xs) (y ∷ ys), not_false _ s.bytes, not_false _ t.bytes) refl;
           parts = rw slash (suffixes-append ends_part (x ∷ xs) ys (λ zs. ends_part-append zs ys) s.parts (rw slash at t.parts));

@@ -1,9 +1,10 @@
 // A path of at most 255 bytes, kept in place, which contracts see as the list of its bytes.
-ghost use Rattle.std.specs.Prelude.{◌≡◌, ◌≤◌, ◌++◌, ◌∷◌, ◌+◌, ◌-◌, not, length, take, replicate, IfOk, IfErr, nat_eq};
+ghost use Rattle.std.specs.Prelude.{◌≡◌, ◌≤◌, ◌<◌, ◌++◌, ◌∷◌, ◌+◌, ◌-◌, not, length, take, replicate, IfOk, IfErr, nat_eq};
 ghost use Rattle.std.specs.Cmp.Lexicographic.{pointwise};
 ghost use Rattle.std.specs.List.{list_all};
 ghost use Rattle.kl_base.specs.Names.{name_fault, ends_part, slash_then, any_suffix, dots, is_path_byte};
 
+use crate::NAME_LIMIT;
 use std::alloc::AllocError;
 use std::cmp::Ordering;
 use std::marker::Model;
@@ -28,13 +29,14 @@ pub enum NameFault {
 /// The absolute path of a file, of at most 255 bytes, kept in place. Contracts see it as the list of its bytes.
 #[derive(Copy, Debug)]
 pub struct Name {
-    bytes: [u8; 255],
+    bytes: [u8; NAME_LIMIT],
     len: u8,
 }
 
 impl Model for Name {
     ghost use Rattle.std.specs.Prelude.{ℕ, List, take, length, replicate, ◌++◌, ◌-◌};
     ghost use Rattle.kl_base.specs.Padded.{IsPadded, same_fields};
+    ghost use Rattle.kl_base.specs.declared.limits.TheConstants.{NAME_LIMIT};
 
     ghost Value = { List ℕ };
 
@@ -42,7 +44,7 @@ impl Model for Name {
 
     ghost invariant = { λ s. IsPadded s.bytes s.len };
 
-    ghost inverse = { λ n. record { bytes = n ++ replicate (255 - length n) 0; len = length n } };
+    ghost inverse = { λ n. record { bytes = n ++ replicate (NAME_LIMIT - length n) 0; len = length n } };
 
     ghost inverse_ok = { λ s h i. record { bytes = (same_fields s.bytes s.len h).same_bytes i; len = (same_fields s.bytes s.len h).same_len i } };
 }
@@ -79,7 +81,7 @@ impl Name {
         ensures ok { IfOk result (λ n. (n ≡ 47 ∷ file.now) × (name_fault (47 ∷ file.now) ≡ None)) }
         ensures fault { IfErr result (λ f. name_fault (47 ∷ file.now) ≡ Some f) }
     {
-        if file.len() > 254 {
+        if file.len() >= NAME_LIMIT {
             return Err(NameFault::TooLong);
         }
         Name::from_bytes(&rooted(file)[..file.len() + 1])
@@ -87,7 +89,7 @@ impl Name {
 
     /// The name of a file below this folder: this name's bytes, then those of the file's name in the folder.
     pub fn join(&self, file: &Name) -> Name
-        requires { length self.now + length file.now ≤ 255 }
+        requires { length self.now + length file.now ≤ NAME_LIMIT }
         ensures { result ≡ self.now ++ file.now }
     {
         let (folder, file) = (self.bytes(), file.bytes());
@@ -132,7 +134,7 @@ fn first_fault(bytes: &[u8]) -> Option<NameFault>
 {
     if bytes.is_empty() {
         Some(NameFault::Empty)
-    } else if bytes.len() > 255 {
+    } else if bytes.len() > NAME_LIMIT {
         Some(NameFault::TooLong)
     } else if bytes[0] != b'/' {
         Some(NameFault::NotAbsolute)
@@ -161,19 +163,19 @@ fn is_path_byte(byte: u8) -> bool
 }
 
 // the bytes, and zeros behind them
-fn padded(bytes: &[u8]) -> [u8; 255]
-    requires { length bytes.now ≤ 255 }
-    ensures { result ≡ bytes.now ++ replicate (255 - length bytes.now) 0 }
+fn padded(bytes: &[u8]) -> [u8; NAME_LIMIT]
+    requires { length bytes.now ≤ NAME_LIMIT }
+    ensures { result ≡ bytes.now ++ replicate (NAME_LIMIT - length bytes.now) 0 }
 {
-    let mut kept = [0; 255];
+    let mut kept = [0; NAME_LIMIT];
     kept[..bytes.len()].copy_from_slice(bytes);
     kept
 }
 
 // the bytes of a folder and a file, and zeros behind them
-fn joined(folder: &[u8], file: &[u8]) -> [u8; 255]
-    requires { length folder.now + length file.now ≤ 255 }
-    ensures { result ≡ folder.now ++ (file.now ++ replicate (255 - (length folder.now + length file.now)) 0) }
+fn joined(folder: &[u8], file: &[u8]) -> [u8; NAME_LIMIT]
+    requires { length folder.now + length file.now ≤ NAME_LIMIT }
+    ensures { result ≡ folder.now ++ (file.now ++ replicate (NAME_LIMIT - (length folder.now + length file.now)) 0) }
 {
     let mut kept = padded(folder);
     kept[folder.len()..folder.len() + file.len()].copy_from_slice(file);
@@ -181,11 +183,11 @@ fn joined(folder: &[u8], file: &[u8]) -> [u8; 255]
 }
 
 // a slash and the bytes
-fn rooted(file: &[u8]) -> [u8; 255]
-    requires { length file.now ≤ 254 }
+fn rooted(file: &[u8]) -> [u8; NAME_LIMIT]
+    requires { length file.now < NAME_LIMIT }
     ensures { take (length file.now + 1) result ≡ 47 ∷ file.now }
 {
-    let mut kept = [b'/'; 255];
+    let mut kept = [b'/'; NAME_LIMIT];
     kept[1..file.len() + 1].copy_from_slice(file);
     kept
 }

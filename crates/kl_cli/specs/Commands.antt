@@ -4,10 +4,11 @@ use Rattle.std.specs.Str.{bytes_eq}
 use Rattle.kl_base.specs.Names.{name_fault}
 use Rattle.kl_cli.specs.declared.command.Command.{Command}
 use Rattle.kl_cli.specs.declared.command.Command.TheVariants.{Link}
+use Rattle.kl_base.specs.declared.limits.TheConstants.{FILE_LIMIT}
 
--- the folder of a kit is a name of at most 127 bytes
+-- the folder of a kit is a name within the limit
 abbrev pub is_folder : List ℕ → Bool
-is_folder w = nat_le (length w) 127 && is_none (name_fault w)
+is_folder w = nat_le (length w) FILE_LIMIT && is_none (name_fault w)
 
 -- `link DIR`
 abbrev pub link_of : List ℕ → List ℕ → Option Command
@@ -20,4 +21,4 @@ command_of _ = None
 
 -- what a command's words had
 abbrev pub IsCommand : Command → Type 0
-IsCommand (Link dir) = length dir ≤ 127
+IsCommand (Link dir) = length dir ≤ FILE_LIMIT

@@ -2,12 +2,12 @@
 ghost use Rattle.std.specs.Prelude.{◌≡◌, IfSome};
 ghost use Rattle.kl_cli.specs.Commands.{IsCommand, link_of};
 
-use kl_base::Name;
+use kl_base::{FILE_LIMIT, Name};
 
 /// What the words ask for.
 #[derive(Clone, Copy, Debug, PartialEq, Eq)]
 pub enum Command {
-    /// Links the kit in a folder, whose name has at most 127 bytes.
+    /// Links the kit in a folder, whose name has at most `FILE_LIMIT` bytes.
     Link(Name),
 }
 
@@ -36,7 +36,7 @@ fn link_of(word: &[u8], dir: &[u8]) -> Option<Command>
     if word != b"link".as_slice() {
         return None;
     }
-    if dir.len() > 127 {
+    if dir.len() > FILE_LIMIT {
         return None;
     }
     match Name::from_bytes(dir) {

@@ -1,4 +1,5 @@
--- The ELF64 records in bytes, at the places that the gABI's structures give their fields.
+-- The ELF64 records in bytes, at the places that the gABI's structures give their fields. The numbers of the places stand here once
+-- more than in the tables of the code, whose `read` and `write` are proved to agree with them.
 use Rattle.std.specs.Prelude.{ℕ, zero, suc, ◌+◌, List, [], ◌∷◌, take, drop}
 use Rattle.std.specs.Int.{cast_signed, w64}
 use Rattle.kl_le.specs.Bytes.{num}
@@ -8,6 +9,7 @@ use Rattle.kl_elf.specs.declared.records.Sym.{Sym}
 use Rattle.kl_elf.specs.declared.records.Rela.{Rela}
 use Rattle.kl_elf.specs.declared.records.Phdr.{Phdr}
 use Rattle.kl_elf.specs.declared.records.Dyn.{Dyn}
+use Rattle.kl_elf.specs.declared.records.TheConstants.Phdr as phdr
 
 -- the file header at a place (Elf64_Ehdr)
 abbrev pub ehdr_at : List ℕ → ℕ → Ehdr
@@ -82,7 +84,7 @@ dyn_at b at = record {
   value = num b (at + 8) 8;
 }
 
--- n program headers in a row, of 56 bytes each
+-- n program headers in a row
 abbrev pub phdrs_from : List ℕ → ℕ → ℕ → List Phdr
 phdrs_from b at zero = []
-phdrs_from b at (suc n) = phdr_at b at ∷ phdrs_from b (at + 56) n
+phdrs_from b at (suc n) = phdr_at b at ∷ phdrs_from b (at + phdr.SIZE) n

@@ -3,6 +3,9 @@ ghost use Rattle.std.specs.Result.{result_err};
 ghost use Rattle.kl_elf.specs.Heads.{head_fault, magic_len};
 ghost use Rattle.kl_elf.specs.Records.{ehdr_at};
 
+use crate::abi::{
+    EI_CLASS, EI_DATA, EI_VERSION, ELFCLASS64, ELFDATA2LSB, ELFMAG, EM_X86_64, ET_REL, EV_CURRENT,
+};
 use crate::{Ehdr, Shdr};
 
 /// What is wrong with the header of an object, in the order in which it is told.
@@ -30,29 +33,16 @@ pub enum HeadFault {
     SectionSize,
 }
 
-/// The bytes with which an ELF file begins.
-const MAGIC: [u8; 4] = *b"\x7fELF";
-
-const ELFCLASS64: u8 = 2;
-
-const ELFDATA2LSB: u8 = 1;
-
-const EV_CURRENT: u8 = 1;
-
-const ET_REL: u16 = 1;
-
-const EM_X86_64: u16 = 62;
-
 /// How many of the first bytes of an ident are those of the magic: 4 where it is whole.
 fn magic_len(ident: &[u8; 16]) -> usize
     ensures { result ≡ magic_len ident.now }
 {
-    for (i, byte) in MAGIC.iter().enumerate() {
+    for (i, byte) in ELFMAG.iter().enumerate() {
         if ident[i] != *byte {
             return i;
         }
     }
-    MAGIC.len()
+    ELFMAG.len()
 }
 
 /// Reads the header of an object.
@@ -70,32 +60,32 @@ pub fn read_ehdr(b: &[u8]) -> Result<Ehdr, (HeadFault, u64)>
     }
     let head = Ehdr::read(b, 0);
     let same = magic_len(&head.ident);
-    if same < MAGIC.len() {
+    if same < ELFMAG.len() {
         return Err((HeadFault::Magic, same as u64));
     }
-    if head.ident[4] != ELFCLASS64 {
-        return Err((HeadFault::IdentClass, 4));
+    if head.ident[EI_CLASS] != ELFCLASS64 {
+        return Err((HeadFault::IdentClass, EI_CLASS as u64));
     }
-    if head.ident[5] != ELFDATA2LSB {
-        return Err((HeadFault::IdentOrder, 5));
+    if head.ident[EI_DATA] != ELFDATA2LSB {
+        return Err((HeadFault::IdentOrder, EI_DATA as u64));
     }
-    if head.ident[6] != EV_CURRENT {
-        return Err((HeadFault::IdentVersion, 6));
+    if head.ident[EI_VERSION] != EV_CURRENT {
+        return Err((HeadFault::IdentVersion, EI_VERSION as u64));
     }
     if head.kind != ET_REL {
-        return Err((HeadFault::FileType, 16));
+        return Err((HeadFault::FileType, Ehdr::E_TYPE));
     }
     if head.machine != EM_X86_64 {
-        return Err((HeadFault::Machine, 18));
+        return Err((HeadFault::Machine, Ehdr::E_MACHINE));
     }
     if head.version != u32::from(EV_CURRENT) {
-        return Err((HeadFault::FileVersion, 20));
+        return Err((HeadFault::FileVersion, Ehdr::E_VERSION));
     }
     if usize::from(head.ehsize) != Ehdr::SIZE {
-        return Err((HeadFault::HeadSize, 52));
+        return Err((HeadFault::HeadSize, Ehdr::E_EHSIZE));
     }
     if usize::from(head.shentsize) != Shdr::SIZE {
-        return Err((HeadFault::SectionSize, 58));
+        return Err((HeadFault::SectionSize, Ehdr::E_SHENTSIZE));
     }
     Ok(head)
 }

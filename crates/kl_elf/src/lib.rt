@@ -1,6 +1,8 @@
-//! The records of an ELF64 file: headers, sections, symbols, relocations and dynamic entries.
+//! The records of an ELF64 file, headers, sections, symbols, relocations and dynamic entries, and the numbers that stand in
+//! them.
 #![tactic(auto)]
 
+pub mod abi;
 mod head;
 mod image;
 mod records;

@@ -18,6 +18,19 @@ macro_rules! read_field {
     ($b:ident, $at:expr, $width:literal, $kind:ident) => { get::<$width>($b, $at) as $kind };
 }
 
+/// The record of a table that holds in each field the field's own place.
+macro_rules! place_fields {
+    ($record:ident; $($field:ident $place:literal ($width:literal) $kind:tt),*) => {
+        $record { $($field: place_field!($place, $kind)),* }
+    };
+}
+
+/// The place of one field, by its type.
+macro_rules! place_field {
+    ($place:literal, [u8; 16]) => { [$place; 16] };
+    ($place:literal, $kind:ident) => { $place };
+}
+
 /// Writes the fields of a table into `b`, where the record stands at `at`.
 macro_rules! write_fields {
     ($record:expr, $b:ident, $at:ident; $($field:ident $place:literal ($width:literal) $kind:tt),*) => {
@@ -159,9 +172,36 @@ impl Ehdr {
     /// Its size in bytes.
     pub const SIZE: usize = 64;
 
+    /// The record whose fields are their own places.
+    const PLACES: Ehdr = ehdr_fields!(place_fields!(Ehdr));
+
+    /// The place of `e_type` in it.
+    pub const E_TYPE: u64 = Ehdr::PLACES.kind as u64;
+
+    /// The place of `e_machine` in it.
+    pub const E_MACHINE: u64 = Ehdr::PLACES.machine as u64;
+
+    /// The place of `e_version` in it.
+    pub const E_VERSION: u64 = Ehdr::PLACES.version as u64;
+
+    /// The place of `e_shoff` in it.
+    pub const E_SHOFF: u64 = Ehdr::PLACES.shoff as u64;
+
+    /// The place of `e_ehsize` in it.
+    pub const E_EHSIZE: u64 = Ehdr::PLACES.ehsize as u64;
+
+    /// The place of `e_shentsize` in it.
+    pub const E_SHENTSIZE: u64 = Ehdr::PLACES.shentsize as u64;
+
+    /// The place of `e_shnum` in it.
+    pub const E_SHNUM: u64 = Ehdr::PLACES.shnum as u64;
+
+    /// The place of `e_shstrndx` in it.
+    pub const E_SHSTRNDX: u64 = Ehdr::PLACES.shstrndx as u64;
+
     /// The file header in the 64 bytes of `b` from `at` on.
     pub fn read(b: &[u8], at: usize) -> Self
-        requires { at + 64 ≤ length b.now }
+        requires { at + Ehdr.SIZE ≤ length b.now }
         ensures { result ≡ ehdr_at b.now at }
     {
         ehdr_fields!(read_fields!(Ehdr, b, at))
@@ -169,9 +209,9 @@ impl Ehdr {
 
     /// Writes the 64 bytes of `b` from `at` on, and leaves all other bytes.
     pub fn write(&self, b: &mut [u8], at: usize)
-        requires { at + 64 ≤ length b.old }
+        requires { at + Ehdr.SIZE ≤ length b.old }
         ensures reads { ehdr_at b.new at ≡ self.now }
-        ensures rest { ChangesWithin b.old b.new at 64 }
+        ensures rest { ChangesWithin b.old b.new at Ehdr.SIZE }
     {
         ehdr_fields!(write_fields!(self, b, at));
     }
@@ -208,9 +248,36 @@ impl Shdr {
     /// Its size in bytes.
     pub const SIZE: usize = 64;
 
+    /// The record whose fields are their own places.
+    const PLACES: Shdr = shdr_fields!(place_fields!(Shdr));
+
+    /// The place of `sh_type` in it.
+    pub const SH_TYPE: u64 = Shdr::PLACES.kind as u64;
+
+    /// The place of `sh_flags` in it.
+    pub const SH_FLAGS: u64 = Shdr::PLACES.flags as u64;
+
+    /// The place of `sh_offset` in it.
+    pub const SH_OFFSET: u64 = Shdr::PLACES.offset as u64;
+
+    /// The place of `sh_size` in it.
+    pub const SH_SIZE: u64 = Shdr::PLACES.size as u64;
+
+    /// The place of `sh_link` in it.
+    pub const SH_LINK: u64 = Shdr::PLACES.link as u64;
+
+    /// The place of `sh_info` in it.
+    pub const SH_INFO: u64 = Shdr::PLACES.info as u64;
+
+    /// The place of `sh_addralign` in it.
+    pub const SH_ADDRALIGN: u64 = Shdr::PLACES.addralign as u64;
+
+    /// The place of `sh_entsize` in it.
+    pub const SH_ENTSIZE: u64 = Shdr::PLACES.entsize as u64;
+
     /// The section header in the 64 bytes of `b` from `at` on.
     pub fn read(b: &[u8], at: usize) -> Self
-        requires { at + 64 ≤ length b.now }
+        requires { at + Shdr.SIZE ≤ length b.now }
         ensures { result ≡ shdr_at b.now at }
     {
         shdr_fields!(read_fields!(Shdr, b, at))
@@ -218,9 +285,9 @@ impl Shdr {
 
     /// Writes the 64 bytes of `b` from `at` on, and leaves all other bytes.
     pub fn write(&self, b: &mut [u8], at: usize)
-        requires { at + 64 ≤ length b.old }
+        requires { at + Shdr.SIZE ≤ length b.old }
         ensures reads { shdr_at b.new at ≡ self.now }
-        ensures rest { ChangesWithin b.old b.new at 64 }
+        ensures rest { ChangesWithin b.old b.new at Shdr.SIZE }
     {
         shdr_fields!(write_fields!(self, b, at));
     }
@@ -249,9 +316,24 @@ impl Sym {
     /// Its size in bytes.
     pub const SIZE: usize = 24;
 
+    /// The record whose fields are their own places.
+    const PLACES: Sym = sym_fields!(place_fields!(Sym));
+
+    /// The place of `st_info` in it.
+    pub const ST_INFO: u64 = Sym::PLACES.info as u64;
+
+    /// The place of `st_shndx` in it.
+    pub const ST_SHNDX: u64 = Sym::PLACES.shndx as u64;
+
+    /// The place of `st_value` in it.
+    pub const ST_VALUE: u64 = Sym::PLACES.value as u64;
+
+    /// The place of `st_size` in it.
+    pub const ST_SIZE: u64 = Sym::PLACES.size as u64;
+
     /// The symbol in the 24 bytes of `b` from `at` on.
     pub fn read(b: &[u8], at: usize) -> Self
-        requires { at + 24 ≤ length b.now }
+        requires { at + Sym.SIZE ≤ length b.now }
         ensures { result ≡ sym_at b.now at }
     {
         sym_fields!(read_fields!(Sym, b, at))
@@ -259,9 +341,9 @@ impl Sym {
 
     /// Writes the 24 bytes of `b` from `at` on, and leaves all other bytes.
     pub fn write(&self, b: &mut [u8], at: usize)
-        requires { at + 24 ≤ length b.old }
+        requires { at + Sym.SIZE ≤ length b.old }
         ensures reads { sym_at b.new at ≡ self.now }
-        ensures rest { ChangesWithin b.old b.new at 24 }
+        ensures rest { ChangesWithin b.old b.new at Sym.SIZE }
     {
         sym_fields!(write_fields!(self, b, at));
     }
@@ -284,9 +366,15 @@ impl Rela {
     /// Its size in bytes.
     pub const SIZE: usize = 24;
 
+    /// The record whose fields are their own places.
+    const PLACES: Rela = rela_fields!(place_fields!(Rela));
+
+    /// The place of `r_info` in it.
+    pub const R_INFO: u64 = Rela::PLACES.info as u64;
+
     /// The relocation entry in the 24 bytes of `b` from `at` on.
     pub fn read(b: &[u8], at: usize) -> Self
-        requires { at + 24 ≤ length b.now }
+        requires { at + Rela.SIZE ≤ length b.now }
         ensures { result ≡ rela_at b.now at }
     {
         rela_fields!(read_fields!(Rela, b, at))
@@ -294,9 +382,9 @@ impl Rela {
 
     /// Writes the 24 bytes of `b` from `at` on, and leaves all other bytes.
     pub fn write(&self, b: &mut [u8], at: usize)
-        requires { at + 24 ≤ length b.old }
+        requires { at + Rela.SIZE ≤ length b.old }
         ensures reads { rela_at b.new at ≡ self.now }
-        ensures rest { ChangesWithin b.old b.new at 24 }
+        ensures rest { ChangesWithin b.old b.new at Rela.SIZE }
     {
         rela_fields!(write_fields!(self, b, at));
     }
@@ -331,7 +419,7 @@ impl Phdr {
 
     /// The program header in the 56 bytes of `b` from `at` on.
     pub fn read(b: &[u8], at: usize) -> Self
-        requires { at + 56 ≤ length b.now }
+        requires { at + Phdr.SIZE ≤ length b.now }
         ensures { result ≡ phdr_at b.now at }
     {
         phdr_fields!(read_fields!(Phdr, b, at))
@@ -339,9 +427,9 @@ impl Phdr {
 
     /// Writes the 56 bytes of `b` from `at` on, and leaves all other bytes.
     pub fn write(&self, b: &mut [u8], at: usize)
-        requires { at + 56 ≤ length b.old }
+        requires { at + Phdr.SIZE ≤ length b.old }
         ensures reads { phdr_at b.new at ≡ self.now }
-        ensures rest { ChangesWithin b.old b.new at 56 }
+        ensures rest { ChangesWithin b.old b.new at Phdr.SIZE }
     {
         phdr_fields!(write_fields!(self, b, at));
     }
@@ -364,7 +452,7 @@ impl Dyn {
 
     /// The dynamic entry in the 16 bytes of `b` from `at` on.
     pub fn read(b: &[u8], at: usize) -> Self
-        requires { at + 16 ≤ length b.now }
+        requires { at + Dyn.SIZE ≤ length b.now }
         ensures { result ≡ dyn_at b.now at }
     {
         dyn_fields!(read_fields!(Dyn, b, at))
@@ -372,9 +460,9 @@ impl Dyn {
 
     /// Writes the 16 bytes of `b` from `at` on, and leaves all other bytes.
     pub fn write(&self, b: &mut [u8], at: usize)
-        requires { at + 16 ≤ length b.old }
+        requires { at + Dyn.SIZE ≤ length b.old }
         ensures reads { dyn_at b.new at ≡ self.now }
-        ensures rest { ChangesWithin b.old b.new at 16 }
+        ensures rest { ChangesWithin b.old b.new at Dyn.SIZE }
     {
         dyn_fields!(write_fields!(self, b, at));
     }

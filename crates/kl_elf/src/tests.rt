@@ -1,3 +1,4 @@
+use crate::abi::{PF_R, PF_X, PT_LOAD};
 use crate::{Dyn, Ehdr, HeadFault, Phdr, Rela, Shdr, Sym, read_ehdr, write_headers};
 use std::test::Fail;
 
@@ -109,8 +110,8 @@ fn writes_the_headers_of_an_image(rt: HostRuntime) {
     let mut image = [0xcc; 121];
     let head = Ehdr::read(&OBJECT, 0);
     let load = Phdr {
-        kind: 1,
-        flags: 5,
+        kind: PT_LOAD,
+        flags: PF_R | PF_X,
         offset: 0x1000,
         vaddr: 0x40_1000,
         paddr: 0x40_1000,

@@ -10,6 +10,7 @@ use Rattle.std.proofs.lemmas.Bool.{eqb-true, leb-true, ne_eqb}
 use Rattle.kl_base.specs.Names.{is_path_byte, name_fault}
 use Rattle.kl_base.proofs.Joined.{sound-none}
 use Rattle.kl_first.specs.KitText.{IsFirstKit, opening, after_prefix, first_line, is_newline, words_of, head_of, first_kit, is_symbol, is_file}
+use Rattle.kl_base.specs.declared.limits.TheConstants.{FILE_LIMIT, WORD_LIMIT}
 
 pub same_bytes : (t : List ℕ) → bytes_eq t t ≡ true
 same_bytes t = search (rules, bytes_eq-Decides)
@@ -119,10 +120,10 @@ none_is None e = refl
 none_is (Some x) e = cc
 
 pub is_file-name : (f : List ℕ) → is_file f ≡ true → name_fault (47 ∷ f) ≡ None
-is_file-name f e = none_is (name_fault (47 ∷ f)) (and_left _ _ (and_right (nat_le (length f) 127) _ e))
+is_file-name f e = none_is (name_fault (47 ∷ f)) (and_left _ _ (and_right (nat_le (length f) FILE_LIMIT) _ e))
 
-pub is_file-len : (f : List ℕ) → is_file f ≡ true → length f ≤ 127
-is_file-len f e = leb-true (length f) 127 (and_left (nat_le (length f) 127) _ e)
+pub is_file-len : (f : List ℕ) → is_file f ≡ true → length f ≤ FILE_LIMIT
+is_file-len f e = leb-true (length f) FILE_LIMIT (and_left (nat_le (length f) FILE_LIMIT) _ e)
 
 file_bytes : (f : List ℕ) → is_file f ≡ true → list_all is_path_byte f ≡ true
 file_bytes f e =
@@ -130,7 +131,7 @@ file_bytes f e =
     not_false (list_all is_path_byte f) sound.bytes
 
 symbol_bytes : (w : List ℕ) → is_symbol w ≡ true → list_all is_path_byte w ≡ true
-symbol_bytes w e = and_right (nat_le (length w) 255) (list_all is_path_byte w) (and_right (not (length w == 0)) _ e)
+symbol_bytes w e = and_right (nat_le (length w) WORD_LIMIT) (list_all is_path_byte w) (and_right (not (length w == 0)) _ e)
 
 -- each text of four lines is found
 pub first_kit-found : (text symbol file : List ℕ) → IsFirstKit text symbol file → first_kit text ≡ Some (symbol, file)

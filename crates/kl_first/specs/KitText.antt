@@ -7,18 +7,19 @@ use Rattle.kl_base.specs.Names.{name_fault, is_path_byte}
 use Rattle.kl_model.specs.declared.kit.Kit.{Kit}
 use Rattle.kl_model.specs.declared.kit.KitKind.TheVariants.{Kernel}
 use Rattle.kl_model.specs.declared.object.Part.TheVariants.{Head}
+use Rattle.kl_base.specs.declared.limits.TheConstants.{FILE_LIMIT, KERNEL_BASE, SCRATCH_SUFFIX, WORD_LIMIT}
 
 -- bytes and a newline
 abbrev pub line : List ℕ → List ℕ
 line bytes = bytes ++ 10 ∷ []
 
--- a SYMBOL is 1 to 255 bytes from 0x21 to 0x7e
+-- a SYMBOL is at least one byte, and up to the limit, from 0x21 to 0x7e
 abbrev pub is_symbol : List ℕ → Bool
-is_symbol w = not (length w == 0) && (nat_le (length w) 255 && list_all is_path_byte w)
+is_symbol w = not (length w == 0) && (nat_le (length w) WORD_LIMIT && list_all is_path_byte w)
 
--- a FILE is a name without its first slash, of at most 127 bytes, not `link.conf`, and not ending in `.relink`
+-- a FILE is a name without its first slash, not too long, not `link.conf`, and no scratch name
 abbrev pub is_file : List ℕ → Bool
-is_file f = nat_le (length f) 127 && (is_none (name_fault (47 ∷ f)) && (not (bytes_eq f (codes "link.conf")) && not (ends_with nat_eq f (codes ".relink"))))
+is_file f = nat_le (length f) FILE_LIMIT && (is_none (name_fault (47 ∷ f)) && (not (bytes_eq f (codes "link.conf")) && not (ends_with nat_eq f SCRATCH_SUFFIX)))
 
 -- the text of such a kit
 abbrev pub text_of : List ℕ → List ℕ → List ℕ
@@ -60,7 +61,7 @@ abbrev pub kit_of : List ℕ → List ℕ → Kit
 kit_of symbol file = record {
   kind = Kernel;
   output = codes "/bsd";
-  base = 0xffffffff81000000;
+  base = KERNEL_BASE;
   entry = Some symbol;
   inputs = record { place = Head; file = file; line = 4 } ∷ [];
   runs = [];

@@ -5,7 +5,9 @@ ghost use Rattle.std.specs.List.{position_from};
 ghost use Rattle.kl_model.specs.Fit.{IsKernelKit};
 ghost use Rattle.kl_first.specs.KitText.{IsFirstKit, after_prefix, first_line, is_newline, first_kit, is_symbol, is_file, kit_of};
 
-use kl_base::{Listed, Name, NoMemory, are_path_bytes};
+use kl_base::{
+    FILE_LIMIT, KERNEL_BASE, Listed, Name, NoMemory, SCRATCH_SUFFIX, WORD_LIMIT, are_path_bytes,
+};
 use kl_model::{Kit, KitInput, KitKind, Part, Word};
 use std::alloc::Global;
 
@@ -59,16 +61,16 @@ fn newline(text: &[u8]) -> Option<usize>
 fn is_symbol(word: &[u8]) -> bool
     ensures { result ≡ is_symbol word.now }
 {
-    !word.is_empty() && word.len() <= 255 && are_path_bytes(word)
+    !word.is_empty() && word.len() <= WORD_LIMIT && are_path_bytes(word)
 }
 
 fn is_file(file: &[u8]) -> bool
     ensures { result ≡ is_file file.now }
 {
-    file.len() <= 127
+    file.len() <= FILE_LIMIT
         && Name::at_root(file).is_ok()
         && file != b"link.conf".as_slice()
-        && !file.ends_with(b".relink")
+        && !file.ends_with(&SCRATCH_SUFFIX)
 }
 
 /// The kit of such a text: a kernel `/bsd` of one head input at the default base.
@@ -88,7 +90,7 @@ pub fn kit_of(alloc: Global, kit: &FirstKit<'_>) -> Result<Kit, NoMemory>
     Ok(Kit {
         kind: KitKind::Kernel,
         output: Name::from_bytes(b"/bsd").unwrap(),
-        base: 0xffff_ffff_8100_0000,
+        base: KERNEL_BASE,
         entry: Some(entry),
         inputs: Listed::from_vec(vec![in alloc; input]?),
         runs: Listed::new(alloc),

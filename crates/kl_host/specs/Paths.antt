@@ -1,6 +1,7 @@
 -- Where the file of a name lies on the host.
 use Rattle.std.specs.Prelude.{ℕ, ◌==◌, ◌-◌, if◌then◌else◌, List, [], ◌∷◌, codes, drop, take, length}
 use Rattle.std.specs.List.{list_any}
+use Rattle.kl_base.specs.declared.limits.TheConstants.{SCRATCH_SUFFIX}
 
 -- the path below the starting folder: the name without its first slash
 abbrev pub path_of : List ℕ → List ℕ
@@ -22,4 +23,4 @@ folder_path name = folder_at (folder_of name)
 
 -- the target of a scratch name, which is without the suffix `.relink`
 abbrev pub target_of : List ℕ → List ℕ
-target_of name = take (length name - length (codes ".relink")) name
+target_of name = take (length name - length SCRATCH_SUFFIX) name

@@ -5,7 +5,7 @@ ghost use Rattle.kl_base.specs.Names.{is_path_byte};
 ghost use Rattle.kl_store.specs.Names.{is_scratch};
 ghost use Rattle.kl_host.specs.Paths.{folder_of, folder_path, path_of, target_of};
 
-use kl_base::Name;
+use kl_base::{Name, SCRATCH_SUFFIX};
 use std::str;
 
 // The path of the name below the starting folder: the name without its first slash.
@@ -40,8 +40,8 @@ pub fn target_path(name: &Name) -> Option<&str>
     ensures path { IfSome result (λ p. p.now ≡ path_of (target_of name.now)) }
 {
     let bytes = name.bytes();
-    if bytes.ends_with(b".relink") {
-        Some(below(&bytes[..bytes.len() - 7]))
+    if bytes.ends_with(&SCRATCH_SUFFIX) {
+        Some(below(&bytes[..bytes.len() - SCRATCH_SUFFIX.len()]))
     } else {
         None
     }

@@ -9,10 +9,11 @@ use Rattle.kl_base.specs.declared.class.Slot.TheVariants.{Kernel, Libs}
 use Rattle.kl_store.specs.Names.{Names, Rename, carried_out}
 use Rattle.kl_intent.specs.declared.intent.Entry.{Entry}
 use Rattle.kl_intent.specs.IntentText.{slot_name, intent_read}
+use Rattle.kl_base.specs.declared.limits.TheConstants.{SCRATCH_SUFFIX}
 
 -- the name under which a file waits to take the place of the one of this name
 abbrev pub temp_name : List ℕ → List ℕ
-temp_name name = name ++ codes ".relink"
+temp_name name = name ++ SCRATCH_SUFFIX
 
 abbrev pub temp_of : Entry → List ℕ
 temp_of e = temp_name e.target

@@ -8,6 +8,7 @@ use Rattle.kl_intent.specs.IntentText.{slot_name, intent_read, entries_of, AreEn
 use Rattle.kl_install.specs.declared.recover.Found.{Found}
 use Rattle.kl_install.specs.declared.recover.Found.TheVariants.{Nothing, Bad, Batch}
 use Rattle.kl_install.specs.After.{same_slot}
+use Rattle.kl_base.specs.declared.limits.TheConstants.{ENTRY_LIMIT}
 
 -- the number of the first wrong line of a text, line 2 where it names another slot
 abbrev pub wrong_line : Slot → Result (Slot × List Entry) ℕ → Option ℕ
@@ -20,13 +21,13 @@ IsFound slot Nothing file = file ≡ None
 IsFound slot (Bad line) None = ⊥
 IsFound slot (Bad line) (Some text) = wrong_line slot (intent_read text) ≡ Some line
 IsFound slot (Batch i) None = ⊥
-IsFound slot (Batch i) (Some text) = (intent_read text ≡ Ok (slot, entries_of i)) × (i.count ≤ 8)
+IsFound slot (Batch i) (Some text) = (intent_read text ≡ Ok (slot, entries_of i)) × (i.count ≤ ENTRY_LIMIT)
 
 -- a batch that is found is one of an intent
 abbrev pub FoundFits : Found → Type 0
 FoundFits Nothing = ⊤
 FoundFits (Bad line) = ⊤
-FoundFits (Batch i) = (i.count ≤ 8) × AreEntries (entries_of i)
+FoundFits (Batch i) = (i.count ≤ ENTRY_LIMIT) × AreEntries (entries_of i)
 
 -- the disk is settled, and an intent with these entries stands in the slot
 pub record HasIntentOf (slot : Slot) (es : List Entry) (d : Disk) : Type 0 where

@@ -11,6 +11,7 @@ use Rattle.kl_install.specs.declared.recover.SlotEnd.TheVariants.{Nothing, Compl
 use Rattle.kl_install.specs.After.{digest_at, temp_of}
 use Rattle.kl_install.specs.Standing.{Stands, IsSound}
 use Rattle.kl_install.specs.Batch.{Each, IsAway}
+use Rattle.kl_base.specs.declared.limits.TheConstants.{INTENT_LIMIT}
 
 -- Each entry of the slot's intent was sound. Now each target is new, the temporaries and the slot are gone, and all other
 -- names are as in m.
@@ -39,8 +40,8 @@ pub record IsForeign (slot : Slot) (number : ℕ) (target temp : Option (List �
 -- the text is that of no intent, and this is its first line outside the grammar, 0 where it is too long
 pub record IsNoIntent (text : List ℕ) (line : ℕ) : Type 0 where
   pub none : (slot : Slot) (entries : List Entry) → AreEntries entries → text ≢ intent_text slot entries
-  pub long : 4096 < length text → line ≡ 0
-  pub outside : length text ≤ 4096 → IsFirstOutside text line
+  pub long : INTENT_LIMIT < length text → line ≡ 0
+  pub outside : length text ≤ INTENT_LIMIT → IsFirstOutside text line
 
 -- the text is that of an intent of the other slot, which its second line names
 pub record IsOfOther (slot : Slot) (text : List ℕ) (line : ℕ) : Type 0 where

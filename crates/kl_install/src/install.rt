@@ -14,14 +14,15 @@ ghost use Rattle.kl_install.specs.Committed.{Commits};
 ghost use Rattle.kl_store.specs.Files.{KeepsNames};
 ghost use Rattle.kl_install.specs.Others.{IsOther};
 ghost use Rattle.kl_install.specs.Moving.{IsMoving, AreMoved, HasIntent, MayIntend, CanMove, CanRemove};
+ghost use Rattle.kl_base.specs.declared.limits.TheConstants.{ENTRY_LIMIT};
 
-use kl_base::{Name, Slot};
+use kl_base::{INTENT_LIMIT, NAME_LIMIT, Name, SCRATCH_SUFFIX, Slot, TARGET_LIMIT};
 use kl_intent::{Entry, Intent, print_intent, slot_name};
 use kl_store::{Failed, Store, write_whole};
 
 // Puts each staged file in its target's place.
 pub fn install<S: Store>(store: &mut S, intent: &Intent) -> Result<(), Failed>
-    requires few { intent.now.count ≤ 8 }
+    requires few { intent.now.count ≤ ENTRY_LIMIT }
     requires entries { AreEntries (entries_of intent.now) }
     requires staged { ForSome (S.meaning store.old).disk (IsStaged (batch intent.now.slot (entries_of intent.now))) }
     ensures commits { Commits (batch intent.now.slot (entries_of intent.now)) (S.meaning store.old) (S.meaning store.new) result }
@@ -35,7 +36,7 @@ pub fn install<S: Store>(store: &mut S, intent: &Intent) -> Result<(), Failed>
 
 // The slot has the intent of the batch, on the disk.
 fn intend<S: Store>(store: &mut S, intent: &Intent) -> Result<(), Failed>
-    requires few { intent.now.count ≤ 8 }
+    requires few { intent.now.count ≤ ENTRY_LIMIT }
     requires entries { AreEntries (entries_of intent.now) }
     ensures done { Ends (S.meaning store.old) (S.meaning store.new) result (HasIntent (slot_name intent.now.slot) (temp_name (slot_name intent.now.slot)) (intent_text intent.now.slot (entries_of intent.now))) }
     ensures images { LeavesOfDisk (S.meaning store.old) (S.meaning store.new) (MayIntend (slot_name intent.now.slot) (temp_name (slot_name intent.now.slot)) (intent_text intent.now.slot (entries_of intent.now))) }
@@ -43,14 +44,14 @@ fn intend<S: Store>(store: &mut S, intent: &Intent) -> Result<(), Failed>
     ensures cause { HasCause (S.faults store.old) (S.faults store.new) result }
 {
     let slot = slot_name(intent.slot);
-    let mut text = [0; 4096];
+    let mut text = [0; INTENT_LIMIT];
     let count = print_intent(intent, &mut text);
     write_intent(store, &slot, &temp_name(&slot), &text[..count])
 }
 
 // Each file of the batch has its place, on the disk.
 fn move_batch<S: Store>(store: &mut S, intent: &Intent) -> Result<(), Failed>
-    requires few { intent.now.count ≤ 8 }
+    requires few { intent.now.count ≤ ENTRY_LIMIT }
     requires each { AllByRecursion IsEntry (entries_of intent.now) }
     requires apart { AreApart (entries_of intent.now) }
     requires wait { ForSome (S.meaning store.old).disk (CanMove (entries_of intent.now)) }
@@ -75,18 +76,18 @@ pub fn forget<S: Store>(store: &mut S, slot: Slot) -> Result<(), Failed>
 
 // The name under which a file waits to take the place of the one of this name.
 pub fn temp_name(name: &Name) -> Name
-    requires { length name.now ≤ 248 }
+    requires { length name.now ≤ TARGET_LIMIT }
     ensures { result ≡ temp_name name.now }
 {
-    let mut bytes = [0; 255];
+    let mut bytes = [0; NAME_LIMIT];
     let at = put(&mut bytes, 0, name.bytes());
-    let end = put(&mut bytes, at, b".relink");
+    let end = put(&mut bytes, at, &SCRATCH_SUFFIX);
     Name::from_bytes(&bytes[..end]).unwrap()
 }
 
 // Puts the bytes from that place on, and gives the place behind them.
-fn put(out: &mut [u8; 255], at: usize, bytes: &[u8]) -> usize
-    requires { at + length bytes.now ≤ 255 }
+fn put(out: &mut [u8; NAME_LIMIT], at: usize, bytes: &[u8]) -> usize
+    requires { at + length bytes.now ≤ NAME_LIMIT }
     ensures end { result ≡ at + length bytes.now }
     ensures text { take result out.new ≡ take at out.old ++ bytes.now }
 {

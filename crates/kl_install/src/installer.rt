@@ -16,12 +16,13 @@ ghost use Rattle.kl_install.specs.Others.{IsOther, IsNoneOf};
 ghost use Rattle.kl_install.specs.Recovered.{Recovers};
 ghost use Rattle.kl_install.specs.Recovery.{slot_end, is_clear};
 ghost use Rattle.kl_install.specs.Staging.{CanGoOn, Stages};
+ghost use Rattle.kl_base.specs.declared.limits.TheConstants.{ENTRY_LIMIT};
 
 use crate::SlotEnd;
 use crate::install::install;
 use crate::recover::recover;
 use crate::stage::{entry_of, stage_file};
-use kl_base::{Name, NoMemory, Slot};
+use kl_base::{BUFFER_SIZE, Name, NoMemory, Slot};
 use kl_digest::sha256;
 use kl_intent::Intent;
 use kl_store::{Failed, Store};
@@ -34,7 +35,7 @@ pub struct Installer {
     intent: Intent,
     ready: bool,
     buf: Vec<u8>,
-    ghost few: { intent.count ≤ 8 },
+    ghost few: { intent.count ≤ ENTRY_LIMIT },
     ghost size: { length (entries_of intent) ≡ intent.count },
     ghost each: { AllByRecursion IsEntry (entries_of intent) } by { each-prop (entries_of intent) },
     ghost distinct: { AreDistinct [] (entries_of intent) } by { distinct-prop [] (entries_of intent) },
@@ -53,7 +54,7 @@ impl Installer {
         Ok(Installer {
             intent: Intent::new(slot),
             ready: true,
-            buf: vec![in alloc; 0; 65_536]?,
+            buf: vec![in alloc; 0; BUFFER_SIZE]?,
         })
     }
 
@@ -74,7 +75,7 @@ impl Installer {
     ) -> Result<(), Failed>
         requires ready { is_ready self.old ≡ true }
         requires free { Holds (S.meaning store.old) (slot_name (slot_of self.old)) (λ file. file ≡ None) }
-        requires room { length (staged self.old) < 8 }
+        requires room { length (staged self.old) < ENTRY_LIMIT }
         requires target { is_target target.now ≡ true }
         requires fresh { is_new target.now (staged self.old) ≡ true }
         requires so_far { CanGoOn (batch_of self.old) (S.meaning store.old) }

@@ -13,10 +13,11 @@ ghost use Rattle.kl_store.specs.Files.{KeepsNames};
 ghost use Rattle.kl_install.specs.Others.{IsNoneOf};
 ghost use Rattle.kl_install.specs.Recovery.{slot_end, entries_end, checked_end, is_clear, IsPartMoved};
 ghost use Rattle.kl_install.specs.Finding.{IsFound, FoundFits, HasIntentOf};
+ghost use Rattle.kl_base.specs.declared.limits.TheConstants.{ENTRY_LIMIT};
 
 use crate::install::{forget, take_place};
 use crate::sound::first_unsound;
-use kl_base::{Name, Slot};
+use kl_base::{INTENT_LIMIT, Name, Slot};
 use kl_intent::{Entry, Intent, read_intent, slot_name};
 use kl_store::{Failed, Store};
 
@@ -86,10 +87,10 @@ fn find<S: Store>(store: &mut S, slot: Slot) -> Result<Found, Failed>
     let Some(size) = store.size(&name)? else {
         return Ok(Found::Nothing);
     };
-    if size > 4096 {
+    if size > INTENT_LIMIT as u64 {
         return Ok(Found::Bad(0));
     }
-    let mut text = [0; 4096];
+    let mut text = [0; INTENT_LIMIT];
     let count = store.read(&name, 0, &mut text)?;
     Ok(read_slot(slot, &text[..count]))
 }
@@ -119,7 +120,7 @@ fn finish_batch<S: Store>(
     intent: &Intent,
     buf: &mut [u8],
 ) -> Result<SlotEnd, Failed>
-    requires few { intent.now.count ≤ 8 }
+    requires few { intent.now.count ≤ ENTRY_LIMIT }
     requires entries { AreEntries (entries_of intent.now) }
     requires room { 0 < length buf.old }
     requires stands { ForSome (S.meaning store.old).disk (HasIntentOf slot (entries_of intent.now)) }

@@ -6,6 +6,7 @@ ghost use Rattle.kl_store.specs.Calls.{HasCause, Stays};
 ghost use Rattle.kl_intent.specs.IntentText.{IsEntry};
 ghost use Rattle.kl_install.specs.After.{same_digest, is_sound_of};
 ghost use Rattle.kl_install.specs.Recovery.{first_unsound};
+ghost use Rattle.kl_base.specs.declared.limits.TheConstants.{ENTRY_LIMIT};
 
 use crate::Unsound;
 use crate::install::temp_name;
@@ -19,7 +20,7 @@ pub fn first_unsound<S: Store>(
     entries: &[Entry],
     buf: &mut [u8],
 ) -> Result<Option<Unsound>, Failed>
-    requires few { length entries.now ≤ 8 }
+    requires few { length entries.now ≤ ENTRY_LIMIT }
     requires each { AllByRecursion IsEntry entries.now }
     requires room { 0 < length buf.old }
     ensures first { IfOk result (λ u. ForSome (S.meaning store.old).names (λ m. u ≡ first_unsound m entries.now 0)) }

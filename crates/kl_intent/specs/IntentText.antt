@@ -11,6 +11,7 @@ use Rattle.kl_base.specs.declared.class.Slot.{Slot}
 use Rattle.kl_base.specs.declared.class.Slot.TheVariants.{Kernel, Libs}
 use Rattle.kl_intent.specs.declared.intent.Entry.{Entry}
 use Rattle.kl_intent.specs.declared.intent.Intent.{Intent}
+use Rattle.kl_base.specs.declared.limits.TheConstants.{ENTRY_LIMIT, INTENT_LIMIT, SCRATCH_SUFFIX, TARGET_LIMIT}
 
 -- bytes and a newline
 abbrev pub line : List ℕ → List ℕ
@@ -21,9 +22,9 @@ abbrev pub slot_name : Slot → List ℕ
 slot_name Kernel = codes "/var/db/relink.kernel.intent"
 slot_name Libs = codes "/var/db/relink.libs.intent"
 
--- a name that may be a target: of at most 248 bytes, with no end in `.relink`, and no slot's name
+-- a name that may be a target: within the limit, no scratch name, and no slot's name
 abbrev pub is_target_name : List ℕ → Bool
-is_target_name name = nat_le (length name) 248 && (not (ends_with nat_eq name (codes ".relink")) && (not (bytes_eq name (slot_name Kernel)) && not (bytes_eq name (slot_name Libs))))
+is_target_name name = nat_le (length name) TARGET_LIMIT && (not (ends_with nat_eq name SCRATCH_SUFFIX) && (not (bytes_eq name (slot_name Kernel)) && not (bytes_eq name (slot_name Libs))))
 
 abbrev pub is_target : List ℕ → Bool
 is_target name = is_none (name_fault name) && is_target_name name
@@ -77,7 +78,7 @@ pub record IsEntry (e : Entry) : Type 0 where
 -- the entries of an intent: from 1 to 8, with distinct targets
 pub record AreEntries (entries : List Entry) : Type 0 where
   pub some : 0 < length entries
-  pub few : length entries ≤ 8
+  pub few : length entries ≤ ENTRY_LIMIT
   pub each : AllByRecursion IsEntry entries
   pub distinct : AreDistinct [] entries
 
@@ -120,7 +121,7 @@ fresh before None = None
 fresh before (Some e) = cond (is_new e.target before) (Some e) None
 
 abbrev pub fresh_entry : List Entry → List ℕ → Option Entry
-fresh_entry before text = cond (nat_lt (length before) 8) (fresh before (entry_of text)) None
+fresh_entry before text = cond (nat_lt (length before) ENTRY_LIMIT) (fresh before (entry_of text)) None
 
 -- what is said of a line that is none: its number, behind the entries before it
 abbrev pub wrong_line : {A : Type 0} → List Entry → Result A ℕ
@@ -160,11 +161,11 @@ with_slot slot (Err n) = Err n
 
 abbrev pub read_libs : Option (List ℕ) → Result (Slot × List Entry) ℕ
 read_libs None = Err 2
-read_libs (Some rest) = with_slot Libs (entries_from 8 [] rest)
+read_libs (Some rest) = with_slot Libs (entries_from ENTRY_LIMIT [] rest)
 
 abbrev pub read_slot : List ℕ → Option (List ℕ) → Result (Slot × List Entry) ℕ
 read_slot text None = read_libs (after_prefix (line (codes "batch libs")) text)
-read_slot text (Some rest) = with_slot Kernel (entries_from 8 [] rest)
+read_slot text (Some rest) = with_slot Kernel (entries_from ENTRY_LIMIT [] rest)
 
 abbrev pub read_head : Option (List ℕ) → Result (Slot × List Entry) ℕ
 read_head None = Err 1
@@ -173,7 +174,7 @@ read_head (Some rest) = read_slot rest (after_prefix (line (codes "batch kernel"
 -- what an intent's text is read as: the slot and the entries, or the number of its first line outside the grammar, 0 where
 -- there are more than 4,096 bytes
 unfoldable pub intent_read : List ℕ → Result (Slot × List Entry) ℕ
-intent_read bytes = cond (nat_lt 4096 (length bytes)) (Err 0) (read_head (after_prefix (line (codes "relink intent 1")) bytes))
+intent_read bytes = cond (nat_lt INTENT_LIMIT (length bytes)) (Err 0) (read_head (after_prefix (line (codes "relink intent 1")) bytes))
 
 -- the entries of an intent in memory
 abbrev pub entries_of : Intent → List Entry

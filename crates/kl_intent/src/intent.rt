@@ -2,7 +2,7 @@
 ghost use Rattle.std.specs.Prelude.{◌≡◌, ◌<◌, ◌≤◌, ◌++◌, ◌∷◌, ◌+◌, [], length};
 ghost use Rattle.kl_intent.specs.IntentText.{entries_of, slot_name};
 
-use kl_base::{Name, Slot};
+use kl_base::{ENTRY_LIMIT, Name, Slot};
 
 /// A file that is replaced: its target, the SHA-256 digest of what the target held, if it was there,
 /// and the digest of what it is to hold.
@@ -18,7 +18,7 @@ pub struct Entry {
 pub struct Intent {
     pub slot: Slot,
     pub count: u8,
-    pub entries: [Entry; 8],
+    pub entries: [Entry; ENTRY_LIMIT],
 }
 
 /// The name of the file in which the intents of the slot's job stand.
@@ -45,13 +45,13 @@ impl Intent {
         Intent {
             slot,
             count: 0,
-            entries: [blank; 8],
+            entries: [blank; ENTRY_LIMIT],
         }
     }
 
     /// Adds an entry behind the others.
     pub fn push(&mut self, entry: Entry)
-        requires { self.old.count < 8 }
+        requires { self.old.count < ENTRY_LIMIT }
         ensures slot { self.new.slot ≡ self.old.slot }
         ensures count { self.new.count ≡ self.old.count + 1 }
         ensures entries { entries_of self.new ≡ entries_of self.old ++ entry ∷ [] }
@@ -62,7 +62,7 @@ impl Intent {
 
     /// The entries that are meant.
     pub fn entries(&self) -> &[Entry]
-        requires { self.now.count ≤ 8 }
+        requires { self.now.count ≤ ENTRY_LIMIT }
         ensures { result.now ≡ entries_of self.now }
     {
         &self.entries[..self.count as usize]

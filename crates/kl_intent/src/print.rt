@@ -3,16 +3,17 @@ ghost use Rattle.std.specs.Prelude.{◌≡◌, ◌≤◌, ◌+◌, ◌++◌, ◌
 ghost use Rattle.std.specs.List.{flat_map, AllByRecursion};
 ghost use Rattle.hex.specs.Hex.{encode_lower};
 ghost use Rattle.kl_intent.specs.IntentText.{line, slot_word, old_word, entry_line, intent_text, entries_of, IsEntry, AreEntries};
+ghost use Rattle.kl_base.specs.declared.limits.TheConstants.{ENTRY_LIMIT};
 
 use crate::intent::{Entry, Intent};
-use kl_base::Slot;
+use kl_base::{INTENT_LIMIT, Slot};
 
 /// Prints the intent's text into `out`, from its start on, and says how many bytes it has. The other bytes
 /// of `out` may change.
-pub fn print_intent(intent: &Intent, out: &mut [u8; 4096]) -> usize
-    requires few { intent.now.count ≤ 8 }
+pub fn print_intent(intent: &Intent, out: &mut [u8; INTENT_LIMIT]) -> usize
+    requires few { intent.now.count ≤ ENTRY_LIMIT }
     requires entries { AreEntries (entries_of intent.now) }
-    ensures within { result ≤ 4096 }
+    ensures within { result ≤ INTENT_LIMIT }
     ensures text { take result out.new ≡ intent_text intent.now.slot (entries_of intent.now) }
 {
     let at = print_head(intent.slot, out);
@@ -20,7 +21,7 @@ pub fn print_intent(intent: &Intent, out: &mut [u8; 4096]) -> usize
     put(out, at, b"end\n")
 }
 
-fn print_head(slot: Slot, out: &mut [u8; 4096]) -> usize
+fn print_head(slot: Slot, out: &mut [u8; INTENT_LIMIT]) -> usize
     ensures within { result ≤ 29 }
     ensures text { take result out.new ≡ line (codes "relink intent 1") ++ line (codes "batch " ++ slot_word slot) }
 {
@@ -38,8 +39,8 @@ fn slot_line(slot: Slot) -> &'static [u8]
     }
 }
 
-fn print_entries(entries: &[Entry], out: &mut [u8; 4096], at: usize) -> usize
-    requires few { length entries.now ≤ 8 }
+fn print_entries(entries: &[Entry], out: &mut [u8; INTENT_LIMIT], at: usize) -> usize
+    requires few { length entries.now ≤ ENTRY_LIMIT }
     requires each { AllByRecursion IsEntry entries.now }
     requires start { at ≤ 29 }
     ensures within { result ≤ at + 385 * length entries.now }
@@ -52,9 +53,9 @@ fn print_entries(entries: &[Entry], out: &mut [u8; 4096], at: usize) -> usize
     end
 }
 
-fn print_entry(entry: &Entry, out: &mut [u8; 4096], at: usize) -> usize
+fn print_entry(entry: &Entry, out: &mut [u8; INTENT_LIMIT], at: usize) -> usize
     requires entry { IsEntry entry.now }
-    requires room { at + 385 ≤ 4096 }
+    requires room { at + 385 ≤ INTENT_LIMIT }
     ensures within { result ≤ at + 385 }
     ensures text { take result out.new ≡ take at out.old ++ entry_line entry.now }
 {
@@ -67,8 +68,8 @@ fn print_entry(entry: &Entry, out: &mut [u8; 4096], at: usize) -> usize
     put(out, at, b"\n")
 }
 
-fn print_old(old: &Option<[u8; 32]>, out: &mut [u8; 4096], at: usize) -> usize
-    requires { at + 64 ≤ 4096 }
+fn print_old(old: &Option<[u8; 32]>, out: &mut [u8; INTENT_LIMIT], at: usize) -> usize
+    requires { at + 64 ≤ INTENT_LIMIT }
     ensures within { result ≤ at + 64 }
     ensures text { take result out.new ≡ take at out.old ++ old_word old.now }
 {
@@ -78,8 +79,8 @@ fn print_old(old: &Option<[u8; 32]>, out: &mut [u8; 4096], at: usize) -> usize
     }
 }
 
-fn print_digest(digest: &[u8; 32], out: &mut [u8; 4096], at: usize) -> usize
-    requires { at + 64 ≤ 4096 }
+fn print_digest(digest: &[u8; 32], out: &mut [u8; INTENT_LIMIT], at: usize) -> usize
+    requires { at + 64 ≤ INTENT_LIMIT }
     ensures within { result ≡ at + 64 }
     ensures text { take result out.new ≡ take at out.old ++ encode_lower digest.now }
 {
@@ -89,8 +90,8 @@ fn print_digest(digest: &[u8; 32], out: &mut [u8; 4096], at: usize) -> usize
 }
 
 // Puts the bytes from that place on, and gives the place behind them.
-fn put(out: &mut [u8; 4096], at: usize, bytes: &[u8]) -> usize
-    requires { at + length bytes.now ≤ 4096 }
+fn put(out: &mut [u8; INTENT_LIMIT], at: usize, bytes: &[u8]) -> usize
+    requires { at + length bytes.now ≤ INTENT_LIMIT }
     ensures end { result ≡ at + length bytes.now }
     ensures text { take result out.new ≡ take at out.old ++ bytes.now }
 {

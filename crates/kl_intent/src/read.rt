@@ -9,7 +9,7 @@ ghost use Rattle.kl_intent.specs.Outside.{IsFirstOutside};
 use crate::digests::{digest_of, old_of};
 use crate::intent::{Entry, Intent};
 use crate::words::split;
-use kl_base::{Name, Slot};
+use kl_base::{ENTRY_LIMIT, INTENT_LIMIT, Name, SCRATCH_SUFFIX, Slot, TARGET_LIMIT};
 
 /// The first line of a text that is outside the grammar of intents, counted from 1, or 0 where the text
 /// has more than 4,096 bytes.
@@ -21,7 +21,7 @@ pub struct IntentFault {
 /// The intent of a text, or the first line that is outside the grammar: two lines that name the slot, from 1
 /// to 8 entries with distinct targets, and the line `end`, which nothing follows.
 pub fn read_intent(bytes: &[u8]) -> Result<Intent, IntentFault>
-    ensures few { IfOk result (λ i. i.count ≤ 8) }
+    ensures few { IfOk result (λ i. i.count ≤ ENTRY_LIMIT) }
     ensures entries { IfOk result (λ i. AreEntries (entries_of i)) }
     ensures text { IfOk result (λ i. bytes.now ≡ intent_text i.slot (entries_of i)) }
 
@@ -30,8 +30,8 @@ pub fn read_intent(bytes: &[u8]) -> Result<Intent, IntentFault>
     ensures read { Reads result (intent_read bytes.now) }
 
     // A refused text has a first line outside the grammar, and no line is told of one that is too long.
-    ensures long { IfErr result (λ f. 4096 < length bytes.now → f.line ≡ 0) }
-    ensures outside { IfErr result (λ f. length bytes.now ≤ 4096 → IsFirstOutside bytes.now f.line) }
+    ensures long { IfErr result (λ f. INTENT_LIMIT < length bytes.now → f.line ≡ 0) }
+    ensures outside { IfErr result (λ f. length bytes.now ≤ INTENT_LIMIT → IsFirstOutside bytes.now f.line) }
 
     // What was printed is given back.
     ensures slot { IfOk result (λ i. (slot : Slot) (es : List Entry) → AreEntries es → bytes.now ≡ intent_text slot es → i.slot ≡ slot) }
@@ -44,7 +44,7 @@ pub fn read_intent(bytes: &[u8]) -> Result<Intent, IntentFault>
 fn parse(bytes: &[u8]) -> Result<Intent, IntentFault>
     ensures { Reads result (intent_read bytes.now) }
 {
-    if bytes.len() > 4096 {
+    if bytes.len() > INTENT_LIMIT {
         return Err(IntentFault { line: 0 });
     }
     match bytes.strip_prefix(b"relink intent 1\n") {
@@ -74,7 +74,7 @@ fn read_libs(text: &[u8]) -> Result<Intent, IntentFault>
 
 // The lines behind the first two.
 fn read_entries(slot: Slot, text: &[u8]) -> Result<Intent, IntentFault>
-    ensures { ReadsEntries slot result (entries_from 8 [] text.now) }
+    ensures { ReadsEntries slot result (entries_from ENTRY_LIMIT [] text.now) }
 {
     let mut intent = Intent::new(slot);
     let mut rest = text;
@@ -102,7 +102,7 @@ fn is_last(entries: &[Entry], line: &[u8]) -> bool
 
 // The intent, behind whose last line this stands.
 fn ended(intent: Intent, rest: &[u8]) -> Result<Intent, IntentFault>
-    requires few { intent.count ≤ 8 }
+    requires few { intent.count ≤ ENTRY_LIMIT }
     requires size { length (entries_of intent) ≡ intent.count }
     ensures { ReadsEntries intent.slot result (end_of (entries_of intent) rest.now) }
 {
@@ -118,7 +118,7 @@ fn ended(intent: Intent, rest: &[u8]) -> Result<Intent, IntentFault>
 fn fresh_entry(entries: &[Entry], line: &[u8]) -> Option<Entry>
     ensures { result ≡ fresh_entry entries.now line.now }
 {
-    if entries.len() >= 8 {
+    if entries.len() >= ENTRY_LIMIT {
         return None;
     }
     match entry_of(line) {
@@ -178,8 +178,8 @@ fn target_of(bytes: &[u8]) -> Option<Name>
 fn is_target_name(bytes: &[u8]) -> bool
     ensures { result ≡ is_target_name bytes.now }
 {
-    bytes.len() <= 248
-        && !bytes.ends_with(b".relink")
+    bytes.len() <= TARGET_LIMIT
+        && !bytes.ends_with(&SCRATCH_SUFFIX)
         && bytes != b"/var/db/relink.kernel.intent".as_slice()
         && bytes != b"/var/db/relink.libs.intent".as_slice()
 }

@@ -12,15 +12,16 @@ use Rattle.kl_model.specs.declared.kit.Kit.{Kit}
 use Rattle.kl_model.specs.declared.object.Input.{Input}
 use Rattle.kl_rel.specs.Objects.{flaw}
 use Rattle.kl_first.specs.KitText.{IsFirstKit, first_kit, kit_of}
-use Rattle.kl_jobs.specs.Refusals.{below, bytes_refusal, input_limit, input_of, kit_refusal, kit_text, kit_text_limit, link_refusal, over_limit}
+use Rattle.kl_jobs.specs.Refusals.{below, bytes_refusal, input_of, kit_refusal, kit_text, link_refusal, over_limit}
+use Rattle.kl_base.specs.declared.limits.TheConstants.{INPUT_LIMIT, KIT_TEXT_LIMIT}
 use Rattle.kl_jobs.specs.Links.{IsKitOf, IsLinkable}
 use Rattle.kl_jobs.specs.declared.cause.Cause.TheVariants as cause
 use Rattle.kl_jobs.specs.declared.cause.TotalOf.TheVariants.{Sections, Symbols, Fields}
 use Rattle.kl_jobs.proofs.Refused.{refused_input, refused_bytes}
 
 -- a folder whose files are read is refused for its kit
-pub refused_kit : (m : Names) (dir text entry file bytes : List ℕ) (kit : Kit) (inputs : List Input) → get m (kit_text dir) ≡ Some text → length text ≤ kit_text_limit
-    → first_kit text ≡ Some (entry, file) → get m (below dir file) ≡ Some bytes → length bytes ≤ input_limit → bytes_refusal bytes ≡ None
+pub refused_kit : (m : Names) (dir text entry file bytes : List ℕ) (kit : Kit) (inputs : List Input) → get m (kit_text dir) ≡ Some text → length text ≤ KIT_TEXT_LIMIT
+    → first_kit text ≡ Some (entry, file) → get m (below dir file) ≡ Some bytes → length bytes ≤ INPUT_LIMIT → bytes_refusal bytes ≡ None
     → kit ≡ kit_of entry file → inputs ≡ input_of bytes ∷ [] → link_refusal m dir ≡ kit_refusal kit inputs
 refused_kit m dir text entry file bytes kit inputs e1 h1 e2 e3 h2 none ek ei =
     rw (ek, ei) (refused_input m dir text entry file e1 h1 e2 ∙ (refused_bytes m dir entry file bytes e3 h2 ∙ rw none refl))

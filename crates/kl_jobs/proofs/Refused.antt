@@ -13,7 +13,8 @@ use Rattle.kl_rel.specs.declared.fault.ReadError.TheVariants.{Flaw}
 use Rattle.kl_rel.specs.Objects.{flaw, object}
 use Rattle.kl_rel.specs.declared.fault.ReadFault.{ReadFault}
 use Rattle.kl_first.specs.KitText.{first_kit, kit_of}
-use Rattle.kl_jobs.specs.Refusals.{link_refusal, input_refusal, kit_refusal, bytes_refusal, file_fault, is_archive, over_limit, flaw_cause, total_cause, input_of, kit_text, below, kit_text_limit, input_limit}
+use Rattle.kl_jobs.specs.Refusals.{link_refusal, input_refusal, kit_refusal, bytes_refusal, file_fault, is_archive, over_limit, flaw_cause, total_cause, input_of, kit_text, below}
+use Rattle.kl_base.specs.declared.limits.TheConstants.{INPUT_LIMIT, KIT_TEXT_LIMIT}
 use Rattle.kl_jobs.specs.declared.cause.Cause.{Cause}
 use Rattle.kl_jobs.specs.declared.cause.Cause.TheVariants.{NotYet}
 use Rattle.kl_jobs.specs.declared.cause.TotalOf.{TotalOf}
@@ -46,17 +47,17 @@ limit_refused b r x o e is sound same limit =
     known (Some what) = refl
 
 -- a folder whose kit text is read is refused for its input
-pub refused_input : (m : Names) (dir text entry file : List ℕ) → get m (kit_text dir) ≡ Some text → length text ≤ kit_text_limit
+pub refused_input : (m : Names) (dir text entry file : List ℕ) → get m (kit_text dir) ≡ Some text → length text ≤ KIT_TEXT_LIMIT
     → first_kit text ≡ Some (entry, file) → link_refusal m dir ≡ input_refusal m dir (entry, file)
-refused_input m dir text entry file e h first = rw (e, le-ltb kit_text_limit (length text) h, first) refl
+refused_input m dir text entry file e h first = rw (e, le-ltb KIT_TEXT_LIMIT (length text) h, first) refl
 
-pub refused_file : (m : Names) (dir entry file : List ℕ) (c : Cause) → file_fault m (below dir file) input_limit ≡ Some c → input_refusal m dir (entry, file) ≡ Some c
+pub refused_file : (m : Names) (dir entry file : List ℕ) (c : Cause) → file_fault m (below dir file) INPUT_LIMIT ≡ Some c → input_refusal m dir (entry, file) ≡ Some c
 refused_file m dir entry file c e = rw e refl
 
 -- and then for the bytes of the input, and for the kit
-pub refused_bytes : (m : Names) (dir entry file bytes : List ℕ) → get m (below dir file) ≡ Some bytes → length bytes ≤ input_limit
+pub refused_bytes : (m : Names) (dir entry file bytes : List ℕ) → get m (below dir file) ≡ Some bytes → length bytes ≤ INPUT_LIMIT
     → input_refusal m dir (entry, file) ≡ option_or (bytes_refusal bytes) (kit_refusal (kit_of entry file) (input_of bytes ∷ []))
-refused_bytes m dir entry file bytes e h = rw (e, le-ltb input_limit (length bytes) h) refl
+refused_bytes m dir entry file bytes e h = rw (e, le-ltb INPUT_LIMIT (length bytes) h) refl
 
 pub first_refusal : (o p : Option Cause) (c : Cause) → o ≡ Some c → option_or o p ≡ Some c
 first_refusal o p c e = rw e refl

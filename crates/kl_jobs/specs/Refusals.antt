@@ -1,8 +1,9 @@
 -- Why a kit isn't linked: each refusal that stands in its files, in the order in which they are told.
-use Rattle.std.specs.Prelude.{ℕ, ◌≡◌, ◌⊎◌, ◌^◌, Bool, ◌||◌, cond, nat_lt, List, [], ◌∷◌, ◌++◌, length, codes, nat_eq, Option, Some, None, unwrap_or}
+use Rattle.std.specs.Prelude.{ℕ, ◌≡◌, ◌⊎◌, Bool, ◌||◌, cond, nat_lt, List, [], ◌∷◌, ◌++◌, length, codes, nat_eq, Option, Some, None, unwrap_or}
 use Rattle.std.specs.Option.{ForSome, option_map, option_or}
 use Rattle.std.specs.List.{starts_with}
 use Rattle.std.specs.FinMap.{get}
+use Rattle.kl_base.specs.declared.limits.TheConstants.{FIELD_COUNT_LIMIT, INPUT_LIMIT, KIT_TEXT_LIMIT, SECTION_COUNT_LIMIT, SYMBOL_COUNT_LIMIT}
 use Rattle.kl_store.specs.Names.{Names}
 use Rattle.kl_store.specs.Meaning.{Meaning}
 use Rattle.kl_model.specs.Faults.{link_fault}
@@ -28,13 +29,6 @@ kit_text dir = dir ++ codes "/link.conf"
 abbrev pub below : List ℕ → List ℕ → List ℕ
 below dir file = dir ++ 47 ∷ file
 
--- the limits of a kit text, 4 MiB, and of an input file, 64 MiB
-abbrev pub kit_text_limit : ℕ
-kit_text_limit = 4194304
-
-abbrev pub input_limit : ℕ
-input_limit = 67108864
-
 -- the bytes of a name, or none
 abbrev pub held : Names → List ℕ → List ℕ
 held m name = unwrap_or (get m name) []
@@ -58,9 +52,9 @@ input_of b = record { place = Head; bytes = b; object = object b }
 -- what an input has too much of for a kit
 abbrev pub over_limit : Input → Option TotalOf
 over_limit x =
-    cond (nat_lt (2 ^ 20) (length x.object.sections)) (Some Sections)
-    (cond (nat_lt (2 ^ 22) (length x.object.symbols)) (Some Symbols)
-    (cond (nat_lt (2 ^ 23) (length x.object.fields)) (Some Fields) None))
+    cond (nat_lt SECTION_COUNT_LIMIT (length x.object.sections)) (Some Sections)
+    (cond (nat_lt SYMBOL_COUNT_LIMIT (length x.object.symbols)) (Some Symbols)
+    (cond (nat_lt FIELD_COUNT_LIMIT (length x.object.fields)) (Some Fields) None))
 
 -- the first refusal of the bytes of input 0, which stands in line 4 of the kit text
 abbrev pub flaw_cause : ReadFault → Cause
@@ -80,7 +74,7 @@ kit_refusal kit inputs = cond (is_simple kit inputs) (option_map cause.Link (lin
 abbrev pub input_refusal : Names → List ℕ → List ℕ × List ℕ → Option Cause
 input_refusal m dir (entry, file) =
     let b = held m (below dir file) in
-    option_or (file_fault m (below dir file) input_limit) (option_or (bytes_refusal b) (kit_refusal (kit_of entry file) (input_of b ∷ [])))
+    option_or (file_fault m (below dir file) INPUT_LIMIT) (option_or (bytes_refusal b) (kit_refusal (kit_of entry file) (input_of b ∷ [])))
 
 -- the first refusal of a kit text
 abbrev pub text_refusal : Names → List ℕ → Option (List ℕ × List ℕ) → Option Cause
@@ -89,7 +83,7 @@ text_refusal m dir (Some words) = input_refusal m dir words
 
 -- the first refusal that stands in the files of a kit: of its text, then of its input
 abbrev pub link_refusal : Names → List ℕ → Option Cause
-link_refusal m dir = option_or (file_fault m (kit_text dir) kit_text_limit) (text_refusal m dir (first_kit (held m (kit_text dir))))
+link_refusal m dir = option_or (file_fault m (kit_text dir) KIT_TEXT_LIMIT) (text_refusal m dir (first_kit (held m (kit_text dir))))
 
 -- A cause that no file shows: want of memory, or a fault of the store.
 abbrev pub IsOutside : Cause → Type 0

@@ -3,21 +3,16 @@ ghost use Rattle.std.specs.Prelude.{◌≡◌, ◌≢◌, ◌≤◌, ◌⊎◌, 
 ghost use Rattle.kl_model.specs.Fit.{IsFit};
 ghost use Rattle.kl_rel.specs.Objects.{flaw};
 ghost use Rattle.kl_jobs.specs.Refusals.{IsRefusal, bytes_refusal, input_of, is_archive, over_limit};
+ghost use Rattle.kl_base.specs.declared.limits.TheConstants.{INPUT_LIMIT};
 
 use crate::cause::{Cause, KitCause, ObjectCause, TotalOf};
-use kl_base::Listed;
+use kl_base::{FIELD_COUNT_LIMIT, Listed, SECTION_COUNT_LIMIT, SYMBOL_COUNT_LIMIT};
 use kl_model::{Input, Part};
 use kl_rel::{ReadError, read_object};
 use std::alloc::Global;
 
 /// The line of the input in the kit text.
 const LINE: u32 = 4;
-
-const SECTION_LIMIT: usize = 1 << 20;
-
-const SYMBOL_LIMIT: usize = 1 << 22;
-
-const FIELD_LIMIT: usize = 1 << 23;
 
 /// The head input whose file has these bytes.
 ///
@@ -26,7 +21,7 @@ const FIELD_LIMIT: usize = 1 << 23;
 /// `NotYet` where they are an archive, `Object` with their first flaw, `Kit` where the input takes the kit past a limit, and
 /// `NoMemory`.
 pub fn read_input(alloc: Global, bytes: Vec<u8>) -> Result<Input, Cause>
-    requires { length bytes.items ≤ 67108864 }
+    requires { length bytes.items ≤ INPUT_LIMIT }
     ensures input { IfOk result (λ x. x ≡ input_of bytes.items) }
     ensures fit { IfOk result IsFit }
     ensures limit { IfOk result (λ x. over_limit x ≡ None) }
@@ -73,11 +68,11 @@ fn over_limit(input: &Input) -> Option<TotalOf>
     ensures { result ≡ over_limit input.now }
 {
     let object = &input.object;
-    if object.sections.items().len() > SECTION_LIMIT {
+    if object.sections.items().len() > SECTION_COUNT_LIMIT {
         Some(TotalOf::Sections)
-    } else if object.symbols.items().len() > SYMBOL_LIMIT {
+    } else if object.symbols.items().len() > SYMBOL_COUNT_LIMIT {
         Some(TotalOf::Symbols)
-    } else if object.fields.items().len() > FIELD_LIMIT {
+    } else if object.fields.items().len() > FIELD_COUNT_LIMIT {
         Some(TotalOf::Fields)
     } else {
         None

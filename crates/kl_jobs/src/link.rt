@@ -10,6 +10,7 @@ ghost use Rattle.kl_jobs.specs.Links.{AreLinked, IsKitOf, IsLinkable, IsLinked};
 ghost use Rattle.kl_jobs.specs.Writing.{IsPutPair};
 ghost use Rattle.kl_jobs.specs.declared.cause.Cause.TheVariants as cause;
 ghost use Rattle.kl_base.specs.Names.{name_fault};
+ghost use Rattle.kl_base.specs.declared.limits.TheConstants.{FILE_LIMIT};
 
 use crate::cause::Cause;
 use crate::files::read_file;
@@ -40,7 +41,7 @@ struct Files {
 /// Links the kit whose text is `DIR/link.conf`: writes the image to `DIR/linked.relink` and the map of its placement to
 /// `DIR/linked.map.relink`, and settles.
 pub fn link_only<S: Store>(alloc: Global, dir: &Name, store: &mut S) -> Result<(), Cause>
-    requires { length dir.now ≤ 127 }
+    requires { length dir.now ≤ FILE_LIMIT }
     ensures done { Ends (S.meaning store.old) (S.meaning store.new) result (IsLinked dir.now) }
     ensures stands { OnOk result (ForSome (S.meaning store.old).names (λ m. link_refusal m dir.now ≡ None)) }
     ensures refused { IfErr result (Refuses (S.meaning store.old) (λ m. link_refusal m dir.now)) }
@@ -86,7 +87,7 @@ fn link_source(alloc: Global, source: &Source) -> Result<Files, Cause>
 
 /// Reads the kit of a folder and its input. What is left to refuse is the fault of its link.
 fn read_source<S: Store>(alloc: Global, dir: &Name, store: &mut S) -> Result<Source, Cause>
-    requires { length dir.now ≤ 127 }
+    requires { length dir.now ≤ FILE_LIMIT }
     ensures reads { IfOk result (λ s. ForSome (S.meaning store.old).names (λ m. IsKitOf m dir.now s.kit s.inputs.items)) }
     ensures stands { IfOk result (λ s. ForSome (S.meaning store.old).names (λ m. link_refusal m dir.now ≡ option_map cause.Link (link_fault s.kit s.inputs.items None []))) }
     ensures linkable { IfOk result (λ s. IsLinkable s.kit s.inputs.items) }
@@ -112,8 +113,8 @@ fn read_source<S: Store>(alloc: Global, dir: &Name, store: &mut S) -> Result<Sou
 
 /// The name of a file in a folder.
 fn file_in(dir: &Name, file: &[u8]) -> Name
-    requires dir { length dir.now ≤ 127 }
-    requires file { length file.now ≤ 127 }
+    requires dir { length dir.now ≤ FILE_LIMIT }
+    requires file { length file.now ≤ FILE_LIMIT }
     requires name { name_fault (47 ∷ file.now) ≡ None }
     ensures { result ≡ dir.now ++ 47 ∷ file.now }
 {
@@ -122,7 +123,7 @@ fn file_in(dir: &Name, file: &[u8]) -> Name
 
 /// Writes the image and the map of a folder, and settles.
 fn write_pair<S: Store>(store: &mut S, dir: &Name, image: &[u8], map: &[u8]) -> Result<(), Failed>
-    requires { length dir.now ≤ 127 }
+    requires { length dir.now ≤ FILE_LIMIT }
     ensures done { Ends (S.meaning store.old) (S.meaning store.new) result (IsPutPair dir.now image.now map.now) }
     ensures images { LeavesOfDisk (S.meaning store.old) (S.meaning store.new) HasFiles }
     ensures files { SameFiles (S.meaning store.old) (S.meaning store.new) }

@@ -6,8 +6,10 @@ use Rattle.std.proofs.lemmas.List.{append-nil}
 use Rattle.kl_le.specs.Bytes.{ChangesWithin, Outside}
 use Rattle.kl_le.proofs.Num.{num_kept}
 use Rattle.kl_model.specs.Lists.{each}
-use Rattle.kl_model.specs.Line.{is_slot_kind, same_target}
-use Rattle.kl_model.specs.Reaches.{width, value, in_range}
+use Rattle.kl_model.specs.Line.{same_target}
+use Rattle.kl_model.specs.Relocations.{is_slot_kind}
+use Rattle.kl_model.specs.Reaches.{value}
+use Rattle.kl_model.specs.Relocations.{width, in_range}
 use Rattle.kl_model.specs.Carries.{address_of}
 use Rattle.kl_model.specs.Faults.{does_fit, field_address, value_target}
 use Rattle.kl_model.specs.Simple.{IsSimpleField, IsSimpleTarget, StandApart}

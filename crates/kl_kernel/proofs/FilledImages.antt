@@ -5,7 +5,7 @@ use Rattle.std.proofs.lemmas.Bool.{cases_lt}
 use Rattle.std.proofs.lemmas.List.{get_or_default}
 use Rattle.kl_le.specs.Bytes.{ChangesWithin}
 use Rattle.kl_le.proofs.Num.{num_kept}
-use Rattle.kl_model.specs.Reaches.{width}
+use Rattle.kl_model.specs.Relocations.{width}
 use Rattle.kl_model.specs.Carries.{InField, piece_at}
 use Rattle.kl_model.specs.Simple.{IsWritable}
 use Rattle.kl_model.specs.declared.object.Input.{Input}

@@ -5,7 +5,7 @@ use Rattle.std.specs.Option.{option_map}
 use Rattle.std.proofs.lemmas.Bool.{le-ltb}
 use Rattle.kl_model.specs.Graphs.{graph}
 use Rattle.kl_model.specs.Laid.{span}
-use Rattle.kl_model.specs.Carries.{span_limit}
+use Rattle.kl_base.specs.declared.limits.TheConstants.{SPAN_LIMIT}
 use Rattle.kl_model.specs.Faults.{graph_faults, link_fault, range_faults, resolve_fault, resolve_faults, span_faults}
 use Rattle.kl_model.specs.Placed.{placed}
 use Rattle.kl_model.specs.Simple.{IsWritable}
@@ -30,16 +30,16 @@ values_fit img p g hold = each-none 0 _ g.fields (λ k d l. rw (hold k d l).fits
 
 -- a span past the limit is the first fault, and one within it none
 span_first : (n : ℕ) (rest : List LinkFault) (e : LayoutFault) → layout_fault n ≡ Some e → slice_get (span_faults n ++ rest) 0 ≡ Some (as_link_fault e)
-span_first n rest e h = go (nat_lt span_limit n) refl
+span_first n rest e h = go (nat_lt SPAN_LIMIT n) refl
   where
-    go : (t : Bool) → nat_lt span_limit n ≡ t → slice_get (span_faults n ++ rest) 0 ≡ Some (as_link_fault e)
+    go : (t : Bool) → nat_lt SPAN_LIMIT n ≡ t → slice_get (span_faults n ++ rest) 0 ≡ Some (as_link_fault e)
     go true t =
-        let some : Some (layout.Span n span_limit) ≡ Some e = rw t at h in
+        let some : Some (layout.Span n SPAN_LIMIT) ≡ Some e = rw t at h in
         rw t (ap (option_map as_link_fault) some)
     go false t = let none : None ≡ Some e = rw t at h in cc
 
-span_within : (n : ℕ) (rest : List LinkFault) → n ≤ span_limit → span_faults n ++ rest ≡ rest
-span_within n rest h = rw (le-ltb span_limit n h) refl
+span_within : (n : ℕ) (rest : List LinkFault) → n ≤ SPAN_LIMIT → span_faults n ++ rest ≡ rest
+span_within n rest h = rw (le-ltb SPAN_LIMIT n h) refl
 
 module _ (kit : Kit) (inputs : List Input) (order : List ℕ) where
   pub first_of_names : (e : LinkFault) → resolve_fault kit inputs ≡ Some e → link_fault kit inputs None order ≡ Some e
@@ -58,7 +58,7 @@ module _ (kit : Kit) (inputs : List Input) (order : List ℕ) where
     pub of_span : (e : LayoutFault) → layout_fault (span kit (graph kit inputs) None order no_made) ≡ Some e → link_fault kit inputs None order ≡ Some (as_link_fault e)
     of_span e h = after_names ∙ span_first (span kit (graph kit inputs) None order no_made) (range_faults (placed kit (graph kit inputs) None order no_made) (graph kit inputs)) e h
 
-    pub of_range : (p : Placement) → p ≡ placed kit (graph kit inputs) None order no_made → span kit (graph kit inputs) None order no_made ≤ span_limit
+    pub of_range : (p : Placement) → p ≡ placed kit (graph kit inputs) None order no_made → span kit (graph kit inputs) None order no_made ≤ SPAN_LIMIT
         → link_fault kit inputs None order ≡ slice_get (range_faults p (graph kit inputs)) 0
     of_range p is small =
         after_names

@@ -1,7 +1,8 @@
 -- The steps of a link: names, the layout, the image.
 use Rattle.std.proofs.Common.{◌≡◌, ◌≤◌, ◌∙◌, ℕ, List, ap, map}
 use Rattle.std.specs.Prelude.{Some, None, IsTrue, slice_get}
-use Rattle.kl_model.specs.Carries.{Carries, Names, span_limit}
+use Rattle.kl_model.specs.Carries.{Carries, Names}
+use Rattle.kl_base.specs.declared.limits.TheConstants.{SPAN_LIMIT}
 use Rattle.kl_model.specs.Faults.{link_fault, resolve_fault, range_faults}
 use Rattle.kl_model.specs.Fit.{AreFit, IsKernelKit}
 use Rattle.kl_model.specs.Graphs.{graph}
@@ -41,7 +42,7 @@ module _ (kit : Kit) (inputs : List Input) (order : List ℕ) (kernel : IsKernel
     span_fault e h = of_span kit inputs order sound (rw is at graph_writable) e (rw is at h)
 
     module _ (p : Placement) (laid : Laid p kit g None order no_made) (names : Names p g None) (placed_so : p ≡ placed kit g None order no_made)
-        (small : span kit g None order no_made ≤ span_limit) where
+        (small : span kit g None order no_made ≤ SPAN_LIMIT) where
       pub stands : StandInText p g
       stands = stand_in_text kit g order p kernel graph_simple graph_order laid names placed_so small
 

@@ -7,13 +7,16 @@ use Rattle.kl_le.specs.Bytes.{Within}
 use Rattle.kl_base.specs.declared.class.Class.{Class}
 use Rattle.kl_base.specs.declared.class.Class.TheVariants.{Text, Rodata, Rwdata, Bss}
 use Rattle.kl_model.specs.Lists.{each}
-use Rattle.kl_model.specs.Kept.{class_number}
-use Rattle.kl_model.specs.Line.{every_part, is_slot_kind, line, same_target, made_of, piece_part, slots, slots_after}
+use Rattle.kl_model.specs.Areas.{class_number}
+use Rattle.kl_model.specs.Line.{every_part, line, same_target, made_of, piece_part, slots, slots_after}
+use Rattle.kl_model.specs.Relocations.{is_slot_kind}
 use Rattle.kl_model.specs.Fit.{IsKernelKit}
 use Rattle.kl_model.specs.Laid.{AreasStand, IsArea, Laid, area_at, place_of, span}
 use Rattle.kl_model.specs.Memory.{mem}
-use Rattle.kl_model.specs.Reaches.{ReachesDirectly, in_range, value}
-use Rattle.kl_model.specs.Carries.{Apart, CarriesGraph, Contents, FieldReaches, Holds, InArea, InPart, Names, Padded, Reached, address_of, padding, piece_at, no_piece, span_limit}
+use Rattle.kl_model.specs.Reaches.{ReachesDirectly, value}
+use Rattle.kl_model.specs.Relocations.{in_range}
+use Rattle.kl_model.specs.Carries.{Apart, CarriesGraph, Contents, FieldReaches, Holds, InArea, InPart, Names, Padded, Reached, address_of, padding, piece_at, no_piece}
+use Rattle.kl_base.specs.declared.limits.TheConstants.{SPAN_LIMIT}
 use Rattle.kl_model.specs.Faults.{field_address, value_target}
 use Rattle.kl_model.specs.Orders.{IsOrder, drawn_count}
 use Rattle.kl_model.specs.Placed.{placed}
@@ -59,7 +62,7 @@ same_ends : (p : Placement) (n s : ℕ) → IsArea p n s s → (area_at p n).sta
 same_ends p n s i = rw (get_found p.areas n (record { start = s % 2 ^ 64; end = s % 2 ^ 64 }) i) refl
 
 module _ (kit : Kit) (inputs : List Input) (g : Graph) (order : List ℕ) (p : Placement) (fit : IsKernelKit kit) (simple : IsSimpleGraph kit g) (o : IsOrder (drawn_count g.parts) order)
-    (laid : Laid p kit g None order no_made) (names : Names p g None) (is : p ≡ placed kit g None order no_made) (small : span kit g None order no_made ≤ span_limit)
+    (laid : Laid p kit g None order no_made) (names : Names p g None) (is : p ≡ placed kit g None order no_made) (small : span kit g None order no_made ≤ SPAN_LIMIT)
     (writable : IsWritable inputs g) where
   stand : StandInText p g
   stand = stand_in_text kit g order p fit simple o laid names is small

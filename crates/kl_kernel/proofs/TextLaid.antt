@@ -10,13 +10,14 @@ use Rattle.std.proofs.lemmas.List.Sorted.{Contains-permutation}
 use Rattle.kl_le.specs.Bytes.{Within}
 use Rattle.kl_base.specs.declared.class.Class.{Class}
 use Rattle.kl_base.specs.declared.class.Class.TheVariants.{Text, Rodata, Rwdata, Bss}
-use Rattle.kl_model.specs.Kept.{class_number}
+use Rattle.kl_model.specs.Areas.{class_number}
 use Rattle.kl_model.specs.Line.{line, spreads}
 use Rattle.kl_model.specs.Fit.{IsKernelKit}
 use Rattle.kl_model.specs.Lists.{each}
 use Rattle.std.proofs.lemmas.List.Elements.{All-append}
 use Rattle.kl_model.specs.Laid.{Laid, ClassLaid, class_end, IsArea, Stand, area_at, end_of, no_area, page, place_of, reach, span, start_of, up}
-use Rattle.kl_model.specs.Carries.{Names, InPart, class_size, piece_at, no_piece, span_limit}
+use Rattle.kl_model.specs.Carries.{Names, InPart, class_size, piece_at, no_piece}
+use Rattle.kl_base.specs.declared.limits.TheConstants.{SPAN_LIMIT}
 use Rattle.kl_model.specs.Orders.{IsOrder, drawn_count}
 use Rattle.kl_model.specs.Placed.{placed, stop_in}
 use Rattle.kl_model.specs.Simple.{IsSimpleGraph}
@@ -80,7 +81,7 @@ number_of (body.Gap c) = 0
 number_of (body.Area n) = 0
 
 module _ (kit : Kit) (g : Graph) (order : List ℕ) (p : Placement) (fit : IsKernelKit kit) (simple : IsSimpleGraph kit g) (o : IsOrder (drawn_count g.parts) order)
-    (laid : Laid p kit g None order no_made) (names : Names p g None) (is : p ≡ placed kit g None order no_made) (small : span kit g None order no_made ≤ span_limit) where
+    (laid : Laid p kit g None order no_made) (names : Names p g None) (is : p ≡ placed kit g None order no_made) (small : span kit g None order no_made ≤ SPAN_LIMIT) where
   abbrev at : Body → ℕ
   at = place_of p g
 
@@ -100,8 +101,8 @@ module _ (kit : Kit) (g : Graph) (order : List ℕ) (p : Placement) (fit : IsKer
   pub classes_in_order : InOrder p
   classes_in_order = in_order p kit g None order no_made laid small fit.base_limit aligned
 
-  below : reach kit.base text ≤ kit.base + span_limit
-  below = let whole : up (up (up (reach kit.base (text_line g order)) page) page) page - kit.base ≤ span_limit = (rw (line_text kit g simple order, line_rodata kit g simple order, line_rwdata kit g simple order, line_bss kit g simple order) at small) in
+  below : reach kit.base text ≤ kit.base + SPAN_LIMIT
+  below = let whole : up (up (up (reach kit.base (text_line g order)) page) page) page - kit.base ≤ SPAN_LIMIT = (rw (line_text kit g simple order, line_rodata kit g simple order, line_rwdata kit g simple order, line_bss kit g simple order) at small) in
       rw (line_text kit g simple order) (omega (arith, whole))
 
   text_is : IsLaidFrom p kit g None order no_made Text kit.base

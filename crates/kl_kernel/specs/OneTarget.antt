@@ -1,6 +1,6 @@
 -- Where a field leads is the same in all images of a kit.
 use Rattle.std.specs.Prelude.{ℕ, List, Option, All}
-use Rattle.kl_model.specs.Line.{is_slot_kind}
+use Rattle.kl_model.specs.Relocations.{is_slot_kind}
 use Rattle.kl_model.specs.Graphs.{graph}
 use Rattle.kl_model.specs.Carries.{Carries, FieldReaches}
 use Rattle.kl_model.specs.declared.graph.Field.{Field}

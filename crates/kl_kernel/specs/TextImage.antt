@@ -3,11 +3,13 @@ use Rattle.std.specs.Prelude.{ℕ, ◌+◌, ◌-◌, ◌*◌, ◌^◌, ◌%◌, 
 use Rattle.std.specs.Option.{option_map_or}
 use Rattle.kl_le.specs.Bytes.{num, Outside}
 use Rattle.kl_model.specs.Laid.{page, unwrapped, area_at, no_area, no_placed}
-use Rattle.kl_model.specs.Reaches.{width, value}
+use Rattle.kl_model.specs.Reaches.{value}
+use Rattle.kl_model.specs.Relocations.{width}
 use Rattle.kl_elf.specs.Records.{ehdr_at}
 use Rattle.kl_elf.specs.declared.records.Ehdr.{Ehdr}
 use Rattle.kl_model.specs.Memory.{segments}
-use Rattle.kl_model.specs.Carries.{InArea, InField, address_of, class_size, content, ends_at, ident, kernel_head, piece_at, segments_of, span_limit}
+use Rattle.kl_model.specs.Carries.{InArea, InField, address_of, class_size, content, ends_at, kernel_head, piece_at, segments_of}
+use Rattle.kl_base.specs.declared.limits.TheConstants.{BASE_LIMIT, SPAN_LIMIT}
 use Rattle.kl_base.specs.declared.class.Class.TheVariants.{Rodata, Rwdata, Bss}
 use Rattle.kl_model.specs.Lists.{only_if}
 use Rattle.kl_model.specs.Faults.{does_fit, field_address, value_target}
@@ -18,6 +20,10 @@ use Rattle.kl_model.specs.declared.object.Input.{Input}
 use Rattle.kl_model.specs.declared.place.Placement.{Placement}
 use Rattle.kl_model.specs.declared.graph.Field.{Field}
 use Rattle.kl_model.specs.declared.graph.Graph.{Graph}
+use Rattle.kl_elf.specs.declared.abi.TheConstants.{EM_X86_64, ET_EXEC, EV_CURRENT, IDENT}
+use Rattle.kl_elf.specs.declared.records.TheConstants.Ehdr as ehdr
+use Rattle.kl_elf.specs.declared.records.TheConstants.Phdr as phdr
+use Rattle.kl_model.specs.declared.area.TheConstants as area
 
 -- where piece n stands, and where an address stands in the file
 abbrev pub stands_at : Placement → ℕ → ℕ
@@ -28,16 +34,16 @@ file_place p a = page + (a - p.base)
 
 -- the pieces of a graph stand in text, each apart from the others
 pub record StandInText (p : Placement) (g : Graph) : Type 0 where
-  pub base : p.base ≤ 0xffffffffe0000000
-  pub start : p.base ≤ (area_at p 0).start
-  pub ordered : (area_at p 0).start ≤ (area_at p 0).end
-  pub limit : (area_at p 0).end ≤ p.base + span_limit
-  pub areas : 0 < length p.areas
-  pub first : (slice_index_or p.areas 0 no_area).start < 2 ^ 64
-  pub last : (slice_index_or p.areas 0 no_area).end < 2 ^ 64
+  pub base : p.base ≤ BASE_LIMIT
+  pub start : p.base ≤ (area_at p area.TEXT).start
+  pub ordered : (area_at p area.TEXT).start ≤ (area_at p area.TEXT).end
+  pub limit : (area_at p area.TEXT).end ≤ p.base + SPAN_LIMIT
+  pub areas : area.TEXT < length p.areas
+  pub first : (slice_index_or p.areas area.TEXT no_area).start < 2 ^ 64
+  pub last : (slice_index_or p.areas area.TEXT no_area).end < 2 ^ 64
   pub pieces : length p.pieces ≡ length g.pieces
   pub addresses : All (λ x. x.address < 2 ^ 64) p.pieces
-  pub within : (n : ℕ) → n < length g.pieces → ((area_at p 0).start ≤ stands_at p n) × (stands_at p n + (piece_at g n).size ≤ (area_at p 0).end)
+  pub within : (n : ℕ) → n < length g.pieces → ((area_at p area.TEXT).start ≤ stands_at p n) × (stands_at p n + (piece_at g n).size ≤ (area_at p area.TEXT).end)
   pub apart : (n m : ℕ) → n < m → m < length g.pieces → (stands_at p n + (piece_at g n).size ≤ stands_at p m) ⊎ (stands_at p m + (piece_at g m).size ≤ stands_at p n)
 
 -- the bytes of each piece stand in the file
@@ -78,21 +84,21 @@ OnlyText p = (class_size p Rodata ≡ 0) × ((class_size p Rwdata ≡ 0) × (cla
 pub record IsPadding (b : List ℕ) (from to : ℕ) : Type 0 where
   pub len : length b ≡ to
   pub zeros : (k : ℕ) → k < from → slice_index b k ≡ 0
-  pub ints : (k : ℕ) → from ≤ k → k < to → slice_index b k ≡ 0xcc
+  pub ints : (k : ℕ) → from ≤ k → k < to → slice_index b k ≡ area.INT3
 
 -- the header of a kernel with an entry and so many program headers (gABI, `Elf64_Ehdr`)
 abbrev pub head_with : ℕ → ℕ → Ehdr
 head_with entry n = record {
-  ident = ident;
-  kind = 2;
-  machine = 62;
-  version = 1;
+  ident = IDENT;
+  kind = ET_EXEC;
+  machine = EM_X86_64;
+  version = EV_CURRENT;
   entry = entry;
-  phoff = cond (n == 0) 0 64;
+  phoff = cond (n == 0) 0 ehdr.SIZE;
   shoff = 0;
   flags = 0;
-  ehsize = 64;
-  phentsize = 56;
+  ehsize = ehdr.SIZE;
+  phentsize = phdr.SIZE;
   phnum = n;
   shentsize = 0;
   shnum = 0;
@@ -107,7 +113,7 @@ entry_address p g = option_map_or (address_of p g) g.entry 0
 pub record IsFilled (old new : List ℕ) (p : Placement) (inputs : List Input) (g : Graph) : Type 0 where
   pub pieces : (n k : ℕ) → n < length g.pieces → k < (piece_at g n).size → ¬ InField g n k → slice_index new (file_place p (stands_at p n) + k) ≡ content inputs (piece_at g n) k
   pub hold : All (HoldsValue new p g) g.fields
-  pub rest : (q : ℕ) → 120 ≤ q → InNoPiece p g q → slice_index new q ≡ slice_index old q
+  pub rest : (q : ℕ) → ehdr.SIZE + phdr.SIZE ≤ q → InNoPiece p g q → slice_index new q ≡ slice_index old q
 
 -- padding up to a place, and bytes of pieces and fields in it
 pub record IsPaddedAndFilled (img : List ℕ) (from to : ℕ) (p : Placement) (inputs : List Input) (g : Graph) : Type 0 where
@@ -120,8 +126,8 @@ pub record IsPaddedAndFilled (img : List ℕ) (from to : ℕ) (p : Placement) (i
 pub record IsTextImage (img : List ℕ) (p : Placement) (inputs : List Input) (g : Graph) : Type 0 where
   pub head : ehdr_at img 0 ≡ kernel_head p g
   pub segments : segments img ≡ segments_of p
-  pub len : length img ≡ ends_at (64 + 56 * length (segments_of p)) (segments_of p)
-  pub zeros : (k : ℕ) → 64 + 56 * length (segments_of p) ≤ k → All (λ s. Outside s.offset s.filesz k) (segments_of p) → slice_index img k ≡ 0
+  pub len : length img ≡ ends_at (ehdr.SIZE + phdr.SIZE * length (segments_of p)) (segments_of p)
+  pub zeros : (k : ℕ) → ehdr.SIZE + phdr.SIZE * length (segments_of p) ≤ k → All (λ s. Outside s.offset s.filesz k) (segments_of p) → slice_index img k ≡ 0
   pub pieces : (n k : ℕ) → n < length g.pieces → k < (piece_at g n).size → ¬ InField g n k → slice_index img (file_place p (stands_at p n) + k) ≡ content inputs (piece_at g n) k
   pub hold : All (HoldsValue img p g) g.fields
-  pub padding : (a : ℕ) → InArea p 0 a → InNoPiece p g (file_place p a) → slice_index img (file_place p a) ≡ 0xcc
+  pub padding : (a : ℕ) → InArea p area.TEXT a → InNoPiece p g (file_place p a) → slice_index img (file_place p a) ≡ area.INT3

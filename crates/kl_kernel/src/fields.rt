@@ -3,19 +3,21 @@ ghost use Rattle.std.specs.Prelude.{ℕ, ◌≡◌, ◌⊎◌, ◌+◌, ◌<◌,
 ghost use Rattle.kl_le.specs.Bytes.{ChangesWithin, num};
 ghost use Rattle.kl_model.specs.Laid.{area_at};
 ghost use Rattle.std.specs.Int.{cast_unsigned, w64};
-ghost use Rattle.kl_model.specs.Reaches.{in_range, is_signed, plus, value, width};
+ghost use Rattle.kl_model.specs.Reaches.{plus, value};
+ghost use Rattle.kl_model.specs.Relocations.{in_range, is_signed, width};
 ghost use Rattle.kl_model.specs.Carries.{address_of as address_of_target};
 ghost use Rattle.kl_model.specs.Faults.{field_address, range_faults};
 ghost use Rattle.kl_model.specs.Simple.{IsSimpleField, IsSimpleTarget, StandApart};
 ghost use Rattle.kl_kernel.specs.TextImage.{HoldsValue, InNoField, StandInText, field_at, field_place, range_fault};
 ghost use Rattle.kl_kernel.specs.TextImage.{file_place as place_in_file};
 ghost use Rattle.kl_model.specs.declared.link.LinkFault.TheVariants as fault;
+ghost use Rattle.kl_elf.specs.declared.abi.TheConstants.{R_X86_64_PC32, R_X86_64_PLT32};
+ghost use Rattle.kl_model.specs.declared.area.TheConstants as area;
 
 use crate::pieces::file_place;
+use kl_elf::abi::R_X86_64_64;
 use kl_le::put;
 use kl_model::{Field, Graph, LinkFault, Placement, Target};
-
-const R_X86_64_64: u8 = 1;
 
 /// The address of a target (psABI, S).
 pub fn address_of(graph: &Graph, placement: &Placement, target: Target) -> u64
@@ -50,12 +52,12 @@ fn sum_of(field: &Field, s: u64) -> u64
 
 /// The value of a field of the type 64, PC32 or PLT32, with the psABI's S and P, where it is in the type's range.
 fn value_of(field: &Field, s: u64, p: u64) -> Option<u64>
-    requires { (field.now.kind ≡ 1) ⊎ ((field.now.kind ≡ 2) ⊎ (field.now.kind ≡ 4)) }
+    requires { (field.now.kind ≡ R_X86_64_64) ⊎ ((field.now.kind ≡ R_X86_64_PC32) ⊎ (field.now.kind ≡ R_X86_64_PLT32)) }
     ensures { MatchOption result (in_range field.now.kind (value field.now.kind s field.now.addend p) ≡ false)
         (λ v. (v ≡ value field.now.kind s field.now.addend p) × (in_range field.now.kind v ≡ true)) }
 {
     let sum = sum_of(field, s);
-    if field.kind == R_X86_64_64 {
+    if u32::from(field.kind) == R_X86_64_64 {
         return Some(sum);
     }
     let value = sum.wrapping_sub(p);
@@ -80,12 +82,12 @@ fn out_of_range(field: &Field, s: u64, p: u64) -> LinkFault
 
 /// Writes the low bytes of a value into a field of the type 64, PC32 or PLT32, and leaves all other bytes.
 fn patch(image: &mut [u8], at: usize, kind: u8, value: u64)
-    requires kind { (kind ≡ 1) ⊎ ((kind ≡ 2) ⊎ (kind ≡ 4)) }
+    requires kind { (kind ≡ R_X86_64_64) ⊎ ((kind ≡ R_X86_64_PC32) ⊎ (kind ≡ R_X86_64_PLT32)) }
     requires room { at + width kind ≤ length image.old }
     ensures bytes { num image.new at (width kind) ≡ value % 256 ^ width kind }
     ensures rest { ChangesWithin image.old image.new at (width kind) }
 {
-    if kind == R_X86_64_64 {
+    if u32::from(kind) == R_X86_64_64 {
         put::<8>(image, at, value);
     } else {
         put::<4>(image, at, value & 0xffff_ffff);
@@ -106,7 +108,7 @@ fn write_field(
     requires stands { StandInText placement.now graph.now }
     requires fields { All (IsSimpleField graph.now) graph.now.fields }
     requires number { number < length graph.now.fields }
-    requires room { length image.old ≡ place_in_file placement.now (area_at placement.now 0).«end» }
+    requires room { length image.old ≡ place_in_file placement.now (area_at placement.now area.TEXT).«end» }
     ensures holds { OnOk result (HoldsValue image.new placement.now graph.now (field_at graph.now number)) }
     ensures rest { OnOk result (ChangesWithin image.old image.new (field_place placement.now (field_at graph.now number)) (width (field_at graph.now number).kind)) }
     ensures err { IfErr result (λ e. range_fault placement.now graph.now (field_at graph.now number) ≡ e ∷ []) }
@@ -132,7 +134,7 @@ pub fn write_fields(image: &mut [u8], graph: &Graph, placement: &Placement) -> R
     requires stands { StandInText placement.now graph.now }
     requires fields { All (IsSimpleField graph.now) graph.now.fields }
     requires apart { AllPairs StandApart graph.now.fields }
-    requires room { length image.old ≡ place_in_file placement.now (area_at placement.now 0).«end» }
+    requires room { length image.old ≡ place_in_file placement.now (area_at placement.now area.TEXT).«end» }
     ensures hold { OnOk result (All (HoldsValue image.new placement.now graph.now) graph.now.fields) }
     ensures rest { OnOk result ((q : ℕ) → InNoField placement.now graph.now q → slice_index image.new q ≡ slice_index image.old q) }
     ensures err { IfErr result (λ e. slice_get (range_faults placement.now graph.now) 0 ≡ Some e) }

@@ -2,48 +2,40 @@
 ghost use Rattle.std.specs.Prelude.{List, ◌≡◌, ◌⊎◌, ◌+◌, ◌-◌, ◌*◌, ◌<◌, ◌≤◌, ◌^◌, ◌∷◌, [], Some, length, slice_get, IfErr, IfOk, OnOk};
 ghost use Rattle.kl_elf.specs.Records.{ehdr_at, phdrs_from};
 ghost use Rattle.kl_model.specs.Laid.{area_at, page};
-ghost use Rattle.kl_model.specs.Carries.{segment_of, span_limit};
+ghost use Rattle.kl_model.specs.Carries.{segment_of};
+ghost use Rattle.kl_base.specs.declared.limits.TheConstants.{SPAN_LIMIT};
 ghost use Rattle.kl_model.specs.Faults.{range_faults};
 ghost use Rattle.kl_model.specs.declared.object.Input.{Input};
 ghost use Rattle.kl_model.specs.Simple.{IsWritable};
 ghost use Rattle.kl_base.specs.declared.class.Class.TheVariants.{Text};
 ghost use Rattle.kl_kernel.specs.TextImage.{IsFilled, IsPaddedAndFilled, IsPadding, IsTextImage, OnlyText, StandInText, entry_address, head_with};
 ghost use Rattle.kl_kernel.specs.TextImage.{file_place as place_in_file};
+ghost use Rattle.kl_model.specs.declared.area.TheConstants as area;
 
 use crate::fields::{address_of, write_fields};
-use crate::pieces::{PAGE, file_place, write_pieces};
-use kl_base::NoMemory;
+use crate::pieces::{file_place, write_pieces};
+use kl_base::{NoMemory, PAGE};
+use kl_elf::abi::{EM_X86_64, ET_EXEC, EV_CURRENT, IDENT, PF_R, PF_X, PT_LOAD};
 use kl_elf::{Ehdr, Phdr, write_headers};
+use kl_model::area::{INT3, TEXT};
 use kl_model::{Graph, Input, LinkFault, Placement};
 use std::alloc::Global;
-
-const ET_EXEC: u16 = 2;
-
-const EM_X86_64: u16 = 62;
-
-const PT_LOAD: u32 = 1;
-
-/// Read and execute.
-const PF_R_X: u32 = 5;
-
-/// The instruction `int3`, with which text is padded.
-const INT3: u8 = 0xcc;
 
 /// The header of a kernel with this number of program headers (gABI, `Elf64_Ehdr`).
 fn kernel_head(entry: u64, segments: u16) -> Ehdr
     ensures { result ≡ head_with entry segments }
 {
     Ehdr {
-        ident: [0x7f, b'E', b'L', b'F', 2, 1, 1, 0, 0, 0, 0, 0, 0, 0, 0, 0],
+        ident: IDENT,
         kind: ET_EXEC,
         machine: EM_X86_64,
-        version: 1,
+        version: u32::from(EV_CURRENT),
         entry,
-        phoff: if segments == 0 { 0 } else { 64 },
+        phoff: if segments == 0 { 0 } else { Ehdr::SIZE as u64 },
         shoff: 0,
         flags: 0,
-        ehsize: 64,
-        phentsize: 56,
+        ehsize: Ehdr::SIZE as u16,
+        phentsize: Phdr::SIZE as u16,
         phnum: segments,
         shentsize: 0,
         shnum: 0,
@@ -66,7 +58,7 @@ fn entry_of(graph: &Graph, placement: &Placement) -> u64
 /// Zero bytes up to `from`, and the padding of text from there up to `to`.
 fn padded(alloc: Global, from: usize, to: usize) -> Result<Vec<u8>, NoMemory>
     requires order { from ≤ to }
-    requires limit { to ≤ page + span_limit }
+    requires limit { to ≤ page + SPAN_LIMIT }
     ensures { IfOk result (λ v. IsPadding v.items from to) }
 {
     let mut image = vec![in alloc; 0; from]?;
@@ -89,9 +81,9 @@ fn fill_image(
 ) -> Result<(), LinkFault>
     requires stands { StandInText placement.now graph.now }
     requires writable { IsWritable inputs.now graph.now }
-    requires room { length image.old ≡ place_in_file placement.now (area_at placement.now 0).«end» }
+    requires room { length image.old ≡ place_in_file placement.now (area_at placement.now area.TEXT).«end» }
     ensures head { OnOk result (ehdr_at image.new 0 ≡ head.now) }
-    ensures segment { OnOk result (phdrs_from image.new 64 1 ≡ segment.now ∷ []) }
+    ensures segment { OnOk result (phdrs_from image.new Ehdr.SIZE 1 ≡ segment.now ∷ []) }
     ensures filled { OnOk result (IsFilled image.old image.new placement.now inputs.now graph.now) }
     ensures err { IfErr result (λ e. slice_get (range_faults placement.now graph.now) 0 ≡ Some e) }
 {
@@ -104,8 +96,8 @@ fn fill_image(
 /// The program header of text, whose bytes stand in the file from `from` up to `to` (gABI, `Elf64_Phdr`).
 fn text_segment(start: u64, from: usize, to: usize) -> Phdr
     requires order { from ≤ to }
-    ensures kind { result.kind ≡ 1 }
-    ensures flags { result.flags ≡ 5 }
+    ensures kind { result.kind ≡ PT_LOAD }
+    ensures flags { result.flags ≡ PF_R + PF_X }
     ensures offset { result.offset ≡ from }
     ensures address { (result.vaddr ≡ start) × (result.paddr ≡ start) }
     ensures size { (result.filesz ≡ to - from) × (result.memsz ≡ to - from) }
@@ -114,7 +106,7 @@ fn text_segment(start: u64, from: usize, to: usize) -> Phdr
     let size = (to - from) as u64;
     Phdr {
         kind: PT_LOAD,
-        flags: PF_R_X,
+        flags: PF_R | PF_X,
         offset: from as u64,
         vaddr: start,
         paddr: start,
@@ -127,7 +119,7 @@ fn text_segment(start: u64, from: usize, to: usize) -> Phdr
 /// The image of a kernel without a byte: its file header.
 fn bare_image(alloc: Global, entry: u64) -> Result<Vec<u8>, NoMemory>
     ensures head { IfOk result (λ v. ehdr_at v.items 0 ≡ head_with entry 0) }
-    ensures len { IfOk result (λ v. length v.items ≡ 64) }
+    ensures len { IfOk result (λ v. length v.items ≡ Ehdr.SIZE) }
 {
     let mut image = vec![in alloc; 0; Ehdr::SIZE]?;
     write_headers(&mut image, &kernel_head(entry, 0), &[]);
@@ -151,9 +143,9 @@ fn full_image(
     requires stands { StandInText placement.now graph.now }
     requires writable { IsWritable inputs.now graph.now }
     requires order { from ≤ to }
-    requires room { to ≡ place_in_file placement.now (area_at placement.now 0).«end» }
+    requires room { to ≡ place_in_file placement.now (area_at placement.now area.TEXT).«end» }
     ensures head { IfOk result (λ v. ehdr_at v.items 0 ≡ head_with (entry_address placement.now graph.now) 1) }
-    ensures segment { IfOk result (λ v. phdrs_from v.items 64 1 ≡ segment.now ∷ []) }
+    ensures segment { IfOk result (λ v. phdrs_from v.items Ehdr.SIZE 1 ≡ segment.now ∷ []) }
     ensures filled { IfOk result (λ v. IsPaddedAndFilled v.items from to placement.now inputs.now graph.now) }
     ensures err { IfErr result (λ e. (e ≡ LinkFault.NoMemory) ⊎ (slice_get (range_faults placement.now graph.now) 0 ≡ Some e)) }
 {
@@ -181,7 +173,7 @@ pub fn text_image(
     ensures ok { IfOk result (λ v. IsTextImage v.items placement.now inputs.now graph.now) }
     ensures err { IfErr result (λ e. (e ≡ LinkFault.NoMemory) ⊎ (slice_get (range_faults placement.now graph.now) 0 ≡ Some e)) }
 {
-    let area = placement.areas.items()[0];
+    let area = placement.areas.items()[TEXT as usize];
     let from = file_place(placement.base, area.start);
     let to = file_place(placement.base, area.end);
     if from == to {

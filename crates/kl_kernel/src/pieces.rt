@@ -2,20 +2,19 @@
 ghost use Rattle.std.specs.Prelude.{ℕ, ◌≡◌, ◌+◌, ◌<◌, ◌≤◌, length, slice_index, All};
 ghost use Rattle.kl_model.specs.Laid.{area_at, page};
 ghost use Rattle.kl_model.specs.Reaches.{less};
-ghost use Rattle.kl_model.specs.Carries.{span_limit};
+ghost use Rattle.kl_base.specs.declared.limits.TheConstants.{SPAN_LIMIT};
 ghost use Rattle.kl_model.specs.Simple.{IsSourced};
 ghost use Rattle.kl_kernel.specs.TextImage.{HasPieces, InNoPiece, StandInText};
 ghost use Rattle.kl_kernel.specs.TextImage.{file_place as place_in_file};
+ghost use Rattle.kl_model.specs.declared.area.TheConstants as area;
 
+use kl_base::PAGE;
 use kl_le::put_bytes;
 use kl_model::{Graph, Input, PieceId, Placement};
 
-/// The page of a kernel, in bytes.
-pub const PAGE: u64 = 4096;
-
 /// Where an address stands in the file of an image: a page past its place behind the base.
 pub fn file_place(base: u64, address: u64) -> usize
-    requires { less address base ≤ span_limit }
+    requires { less address base ≤ SPAN_LIMIT }
     ensures { result ≡ page + less address base }
 {
     (PAGE + address.wrapping_sub(base)) as usize
@@ -25,7 +24,7 @@ pub fn file_place(base: u64, address: u64) -> usize
 pub fn write_pieces(image: &mut [u8], inputs: &[Input], graph: &Graph, placement: &Placement)
     requires sources { All (IsSourced inputs.now) graph.now.pieces }
     requires stands { StandInText placement.now graph.now }
-    requires room { length image.old ≡ place_in_file placement.now (area_at placement.now 0).«end» }
+    requires room { length image.old ≡ place_in_file placement.now (area_at placement.now area.TEXT).«end» }
     ensures pieces { HasPieces image.new placement.now inputs.now graph.now }
     ensures rest { (q : ℕ) → InNoPiece placement.now graph.now q → slice_index image.new q ≡ slice_index image.old q }
 {

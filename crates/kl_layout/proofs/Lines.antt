@@ -8,7 +8,7 @@ use Rattle.std.proofs.lemmas.Nat.{pow_pos}
 use Rattle.std.proofs.lemmas.Map.Steps.{length-le_from_distinct_below}
 use Rattle.kl_base.specs.declared.class.Class.{Class}
 use Rattle.kl_base.specs.declared.class.Class.TheVariants.{Text, Rodata, Rwdata, Bss}
-use Rattle.kl_model.specs.Kept.{same_class, class_number}
+use Rattle.kl_model.specs.Areas.{same_class, class_number}
 use Rattle.kl_model.specs.Line.{Spread, spreads, line, sequence, piece_part, piece_parts, is_of_input, is_common_id, of_input}
 use Rattle.kl_model.specs.Simple.{IsSimpleGraph}
 use Rattle.kl_model.specs.Orders.{drawn_count, IsOrder}

@@ -7,12 +7,13 @@ use Rattle.std.proofs.lemmas.List.{append-nil, length-map}
 use Rattle.std.proofs.lemmas.List.Sorted.{Contains-permutation}
 use Rattle.std.proofs.lemmas.List.FromFn.{get_or-range_with_len, length-range_with_len}
 use Rattle.kl_base.specs.declared.class.Class.TheVariants.{Text, Rodata, Rwdata, Bss}
-use Rattle.kl_model.specs.Kept.{same_class}
+use Rattle.kl_model.specs.Areas.{same_class}
 use Rattle.kl_model.specs.Line.{Spread, piece_part, is_of_input}
 use Rattle.kl_model.specs.Lists.{each_from, only_if}
 use Rattle.kl_model.specs.Laid.{up, unwrapped, area_at, no_placed, place_of, Stand, start_of, end_of, AreasStand, IsArea, ClassLaid, Laid, reach, span}
 use Rattle.kl_model.specs.Placed.{placed, same_body, stop_of, first_stop}
-use Rattle.kl_model.specs.Carries.{Names, span_limit, no_piece}
+use Rattle.kl_model.specs.Carries.{Names, no_piece}
+use Rattle.kl_base.specs.declared.limits.TheConstants.{SPAN_LIMIT}
 use Rattle.kl_model.specs.Fit.{IsKernelKit}
 use Rattle.kl_model.specs.Orders.{drawn_count, IsOrder}
 use Rattle.kl_model.specs.Simple.{IsSimpleGraph}
@@ -88,7 +89,7 @@ pieces_same address n (q ∷ ps) (x ∷ xs) e h =
     ∙ ap (λ l. record { id = x.id; address = address n; size = x.size } ∷ l) rest))
 
 module _ (kit : Kit) (g : Graph) (order : List ℕ) (p : Placement) (kernel : IsKernelKit kit) (simple : IsSimpleGraph kit g)
-    (o : IsOrder (drawn_count g.parts) order) (small : span kit g None order no_made ≤ span_limit) (words : HasAddresses p) (named : Names p g None)
+    (o : IsOrder (drawn_count g.parts) order) (small : span kit g None order no_made ≤ SPAN_LIMIT) (words : HasAddresses p) (named : Names p g None)
     (laid : Laid p kit g None order no_made) where
   abbrev at : Body → ℕ
   at = place_of p g
@@ -121,7 +122,7 @@ module _ (kit : Kit) (g : Graph) (order : List ℕ) (p : Placement) (kernel : Is
   text_area = rw (first_is, end_is) at (subst (λ x. IsArea p 0 (start_of at base x) (end_of at base x)) (line_text kit g simple order) laid.text.class)
 
   -- the areas
-  limits : (reach base l ≤ base + span_limit) × (base ≤ reach base l)
+  limits : (reach base l ≤ base + SPAN_LIMIT) × (base ≤ reach base l)
   limits =
       let limit = kernel.base_limit in
       (omega (arith, span_is kit g order simple, small), le-reach base l (aligned_parts (length g.pieces) l (line_pieces kit g simple order)))

@@ -4,12 +4,14 @@ use Rattle.std.specs.Prelude.{Some, None, unwrap_or, flat_map, slice_index}
 use Rattle.std.specs.Int.{next_multiple_of}
 use Rattle.std.specs.Option.{option_or}
 use Rattle.std.proofs.lemmas.List.{append-nil}
+use Rattle.std.specs.List.{range_with_len}
 use Rattle.kl_base.specs.declared.class.Class.TheVariants.{Text, Rodata, Rwdata, Bss}
 use Rattle.kl_model.specs.Lists.{each, each_from}
 use Rattle.kl_model.specs.Line.{Spread, spreads}
 use Rattle.kl_model.specs.Laid.{up, page, unwrapped, no_placed, place_of, Stand, start_of, end_of, AreasStand, IsArea, ClassLaid, Laid, reach, span, no_area}
 use Rattle.kl_model.specs.Placed.{placed, stop_of, stop_in, first_stop, extent, extent_of}
-use Rattle.kl_model.specs.Carries.{Names, span_limit, no_piece}
+use Rattle.kl_model.specs.Carries.{Names, no_piece}
+use Rattle.kl_base.specs.declared.limits.TheConstants.{SPAN_LIMIT}
 use Rattle.kl_model.specs.Fit.{IsKernelKit}
 use Rattle.kl_model.specs.Orders.{drawn_count, IsOrder}
 use Rattle.kl_model.specs.Simple.{IsSimpleGraph}
@@ -54,7 +56,7 @@ areas_from base runs t r w z =
     let bss = up (reach rwdata (parts_of w)) page in
     let area = λ (n : ℕ). unwrap_or (option_or (extent_of n base t) (option_or (extent_of n rodata r) (option_or (extent_of n rwdata w) (extent_of n bss z)))) no_area in
     (extent base (parts_of t) ∷ extent rodata (parts_of r) ∷ extent rwdata (parts_of w) ∷ extent bss (parts_of z) ∷ [])
-    ++ (map area (4 ∷ 5 ∷ 6 ∷ 7 ∷ 8 ∷ 9 ∷ 10 ∷ 11 ∷ 12 ∷ 13 ∷ 14 ∷ []) ++ each_from 15 (λ n x. area n ∷ []) runs)
+    ++ (map area (range_with_len 4 11) ++ each_from 15 (λ n x. area n ∷ []) runs)
 
 abbrev empty : ℕ → Spread
 empty n = record { area = Some n; parts = [] }
@@ -163,7 +165,7 @@ module _ (kit : Kit) (g : Graph) (order : List ℕ) (simple : IsSimpleGraph kit 
 
 -- the placement is laid out
 module _ (kit : Kit) (g : Graph) (order : List ℕ) (kernel : IsKernelKit kit) (simple : IsSimpleGraph kit g) (o : IsOrder (drawn_count g.parts) order)
-    (small : span kit g None order no_made ≤ span_limit) where
+    (small : span kit g None order no_made ≤ SPAN_LIMIT) where
   abbrev it : Placement
   it = text_placed kit g order
 
@@ -173,7 +175,7 @@ module _ (kit : Kit) (g : Graph) (order : List ℕ) (kernel : IsKernelKit kit) (
   abbrev l : List LinePart
   l = text_line g order
 
-  reach_limit : reach kit.base l ≤ kit.base + span_limit
+  reach_limit : reach kit.base l ≤ kit.base + SPAN_LIMIT
   reach_limit = let limit = kernel.base_limit in omega (arith, span_is kit g order simple, small)
 
   at_its_stop : (b : Body) (n : ℕ) → stop_of b kit.base l ≡ Some n → at b ≡ n

@@ -1,6 +1,6 @@
 -- When a graph is not laid out.
 use Rattle.std.specs.Prelude.{ℕ, cond, nat_lt, Option, Some, None}
-use Rattle.kl_model.specs.Carries.{span_limit}
+use Rattle.kl_base.specs.declared.limits.TheConstants.{SPAN_LIMIT}
 use Rattle.kl_model.specs.declared.place.Made.{Made}
 use Rattle.kl_layout.specs.declared.fault.LayoutFault.{LayoutFault}
 use Rattle.kl_layout.specs.declared.fault.LayoutFault.TheVariants as fault
@@ -13,7 +13,7 @@ no_made = record { stubs = 0; tables = 0; got = 0; dynamic = 0 }
 
 -- the fault of a span: it passes the limit
 abbrev pub layout_fault : ℕ → Option LayoutFault
-layout_fault n = cond (nat_lt span_limit n) (Some (fault.Span n span_limit)) None
+layout_fault n = cond (nat_lt SPAN_LIMIT n) (Some (fault.Span n SPAN_LIMIT)) None
 
 -- such a fault as the fault of a link
 abbrev pub as_link_fault : LayoutFault → LinkFault

@@ -2,7 +2,7 @@
 use Rattle.std.specs.Prelude.{ℕ, ◌%◌, ◌^◌, ◌≡◌, ◌<◌, ◌≤◌, List, [], ◌∷◌, ◌++◌, map, flat_map, length, slice_index, slice_index_or, replicate, unwrap_or}
 use Rattle.std.specs.List.{IsDistinct}
 use Rattle.kl_base.specs.declared.class.Class.TheVariants.{Text}
-use Rattle.kl_model.specs.Fit.{size_limit}
+use Rattle.kl_base.specs.declared.limits.TheConstants.{ALIGN_POWER_LIMIT, SIZE_LIMIT}
 use Rattle.kl_model.specs.Line.{inputs_in, of_input}
 use Rattle.kl_model.specs.Laid.{up, page, reach}
 use Rattle.kl_model.specs.Placed.{same_body, stop_of, first_stop}
@@ -13,6 +13,7 @@ use Rattle.kl_model.specs.declared.place.Body.TheVariants as body
 use Rattle.kl_model.specs.declared.place.LinePart.{LinePart}
 use Rattle.kl_model.specs.declared.place.AreaAt.{AreaAt}
 use Rattle.kl_model.specs.declared.place.Placed.{Placed}
+use Rattle.kl_model.specs.declared.area.TheConstants as area
 
 -- the inputs in the order in which they stand: head inputs, drawn inputs in a given order, tail inputs
 abbrev pub input_sequence : Graph → List ℕ → List ℕ
@@ -20,7 +21,7 @@ input_sequence g order = inputs_in g Head ++ (map (slice_index (inputs_in g Draw
 
 -- the ordinary pieces of text of an input
 abbrev pub text_of : Graph → ℕ → List LinePart
-text_of g i = of_input g Text 0 i
+text_of g i = of_input g Text area.TEXT i
 
 -- lists with the ordinary pieces of text of each input
 abbrev pub AreTexts : Graph → List (List LinePart) → Type 0
@@ -35,8 +36,8 @@ pub record IsPiecePart (count : ℕ) (x : LinePart) : Type 0 where
   pub number : ℕ
   pub piece : x.body ≡ body.Piece number
   pub known : number < count
-  pub size : x.size ≤ size_limit
-  pub align : (k : ℕ) × (k ≤ 21) × (x.align ≡ 2 ^ k)
+  pub size : x.size ≤ SIZE_LIMIT
+  pub align : (k : ℕ) × (k ≤ ALIGN_POWER_LIMIT) × (x.align ≡ 2 ^ k)
 
 -- no body stands twice
 abbrev pub AreOnce : List LinePart → Type 0
@@ -54,7 +55,7 @@ AreAddresses from parts addresses = (n : ℕ) → n < length addresses → slice
 abbrev pub piece_at_address : List ℕ → ℕ → Piece → List Placed
 piece_at_address addresses n x = record { id = x.id; address = slice_index addresses n; size = x.size } ∷ []
 
--- The areas by number where text alone has parts, which are laid from an address on: `init`, `fini` and `stubs` (4 to 6) are
+-- The areas by number where text alone has parts, which are laid from an address on: `init`, `fini` and `stubs` are
 -- empty at its end, all others on the next page. Each address is kept modulo 2^64.
 abbrev pub text_areas : ℕ → List LinePart → List AreaAt
 text_areas from parts =

@@ -4,6 +4,7 @@ ghost use Rattle.kl_model.specs.Line.{inputs_in};
 ghost use Rattle.kl_model.specs.Orders.{drawn_count, IsOrder};
 ghost use Rattle.kl_model.specs.Simple.{IsSimplePiece, IsSimpleGraph};
 ghost use Rattle.kl_layout.specs.TextLine.{input_sequence, AreTexts, text_line};
+ghost use Rattle.kl_base.specs.declared.limits.TheConstants.{FIELD_COUNT_LIMIT, INPUT_COUNT_LIMIT};
 
 use kl_base::{Listed, NoMemory};
 use kl_model::{Body, Graph, LinePart, Part, PieceId};
@@ -11,7 +12,7 @@ use std::alloc::Global;
 
 /// The numbers of the inputs of a part of the kit.
 fn inputs_of(alloc: Global, graph: &Graph, place: Part) -> Result<Vec<u32>, NoMemory>
-    requires { length graph.now.parts ≤ 16384 }
+    requires { length graph.now.parts ≤ INPUT_COUNT_LIMIT }
     ensures { IfOk result (λ v. v.items ≡ inputs_in graph.now place) }
 {
     let mut inputs = Vec::new(alloc);
@@ -25,7 +26,7 @@ fn inputs_of(alloc: Global, graph: &Graph, place: Part) -> Result<Vec<u32>, NoMe
 
 /// The inputs in the order in which they stand: head inputs, drawn inputs in the order given, tail inputs.
 fn sequence(alloc: Global, graph: &Graph, order: &[u32]) -> Result<Vec<u32>, NoMemory>
-    requires inputs { length graph.now.parts ≤ 16384 }
+    requires inputs { length graph.now.parts ≤ INPUT_COUNT_LIMIT }
     requires order { IsOrder (drawn_count graph.now.parts) order.now }
     ensures { IfOk result (λ v. v.items ≡ input_sequence graph.now order.now) }
 {
@@ -54,7 +55,7 @@ fn no_parts(alloc: Global, inputs: usize) -> Result<Vec<Listed<LinePart>>, NoMem
 /// The pieces of each input, as parts, by number.
 fn parts_by_input(alloc: Global, graph: &Graph) -> Result<Vec<Listed<LinePart>>, NoMemory>
     requires pieces { All (IsSimplePiece (length graph.now.parts)) graph.now.pieces }
-    requires count { length graph.now.pieces < 2 ^ 23 }
+    requires count { length graph.now.pieces < FIELD_COUNT_LIMIT }
     ensures count { IfOk result (λ v. length v.items ≡ length graph.now.parts) }
     ensures texts { IfOk result (λ v. AreTexts graph.now v.items) }
 {
@@ -78,8 +79,8 @@ pub(crate) fn text_parts(
     order: &[u32],
 ) -> Result<Vec<LinePart>, NoMemory>
     requires pieces { All (IsSimplePiece (length graph.now.parts)) graph.now.pieces }
-    requires count { length graph.now.pieces < 2 ^ 23 }
-    requires inputs { length graph.now.parts ≤ 16384 }
+    requires count { length graph.now.pieces < FIELD_COUNT_LIMIT }
+    requires inputs { length graph.now.parts ≤ INPUT_COUNT_LIMIT }
     requires order { IsOrder (drawn_count graph.now.parts) order.now }
     ensures { IfOk result (λ v. v.items ≡ text_line graph.now order.now) }
 {

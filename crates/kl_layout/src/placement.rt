@@ -1,6 +1,6 @@
 // The placement of a graph.
 ghost use Rattle.std.specs.Prelude.{ℕ, ◌≡◌, ◌+◌, ◌*◌, ◌<◌, ◌≤◌, ◌⊎◌, None, Some, length, IfOk, IfErr, OnOk, All};
-ghost use Rattle.kl_model.specs.Carries.{Names, span_limit};
+ghost use Rattle.kl_model.specs.Carries.{Names};
 ghost use Rattle.kl_model.specs.Fit.{IsKernelKit};
 ghost use Rattle.kl_model.specs.Laid.{Laid, span, page, reach};
 ghost use Rattle.kl_model.specs.Lists.{each};
@@ -13,19 +13,16 @@ ghost use Rattle.kl_layout.specs.TextLine.{text_areas, piece_at_address};
 use crate::LayoutFault;
 use crate::line::text_parts;
 use crate::stops::{lay, padding};
-use kl_base::{Listed, NoMemory, SPAN_LIMIT};
+use kl_base::{Listed, NoMemory, PAGE, SPAN_LIMIT};
 use kl_model::{AreaAt, Areas, Gaps, Graph, Kit, LinePart, Made, Placed, PlacedList, Placement};
 use std::alloc::Global;
-
-/// The page of a kernel, in bytes.
-const PAGE: u64 = 4096;
 
 /// The areas of a kernel that has nothing but text.
 fn areas_of(alloc: Global, from: u64, parts: &[LinePart], size: u64) -> Result<Areas, NoMemory>
     requires page { (m : ℕ) × (page * m ≡ from) }
     requires aligned { All (λ x. 0 < x.align) parts.now }
     requires reach { from + size ≡ reach from parts.now }
-    requires limit { size ≤ span_limit }
+    requires limit { size ≤ SPAN_LIMIT }
     ensures { IfOk result (λ areas. areas ≡ text_areas from parts.now) }
 {
     let start = match parts {
@@ -83,7 +80,7 @@ pub fn place(
     ensures laid { IfOk result (λ p. Laid p kit.now graph.now None order.now made.now) }
     ensures names { IfOk result (λ p. Names p graph.now None) }
     ensures placed { IfOk result (λ p. p ≡ placed kit.now graph.now None order.now made.now) }
-    ensures small { OnOk result (span kit.now graph.now None order.now made.now ≤ span_limit) }
+    ensures small { OnOk result (span kit.now graph.now None order.now made.now ≤ SPAN_LIMIT) }
     ensures err { IfErr result (λ e. (e ≡ LayoutFault.NoMemory)
         ⊎ (layout_fault (span kit.now graph.now None order.now made.now) ≡ Some e)) }
 {

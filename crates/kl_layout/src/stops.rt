@@ -2,6 +2,7 @@
 ghost use Rattle.std.specs.Prelude.{◌≡◌, ◌+◌, ◌*◌, ◌<◌, ◌≤◌, ◌^◌, length, IfOk, All};
 ghost use Rattle.kl_model.specs.Laid.{up, reach};
 ghost use Rattle.kl_layout.specs.TextLine.{IsPiecePart, AreOnce, AreAddresses};
+ghost use Rattle.kl_base.specs.declared.limits.TheConstants.{ALIGN_LIMIT, FIELD_COUNT_LIMIT, SIZE_LIMIT};
 
 use kl_base::NoMemory;
 use kl_model::{Body, LinePart};
@@ -28,10 +29,10 @@ pub(crate) fn lay(
 ) -> Result<(Vec<u64>, u64), NoMemory>
     requires pieces { All (IsPiecePart count) parts.now }
     requires once { AreOnce parts.now }
-    requires few { length parts.now < 2 ^ 23 }
+    requires few { length parts.now < FIELD_COUNT_LIMIT }
     ensures count { IfOk result (λ r. length r.0.items ≡ count) }
     ensures addresses { IfOk result (λ r. AreAddresses from parts.now r.0.items) }
-    ensures short { IfOk result (λ r. r.1 ≤ length parts.now * (2 ^ 30 + 2 ^ 21)) }
+    ensures short { IfOk result (λ r. r.1 ≤ length parts.now * (SIZE_LIMIT + ALIGN_LIMIT)) }
     ensures reach { IfOk result (λ r. from + r.1 ≡ reach from parts.now) }
 {
     let mut addresses = vec![in alloc; 0; count]?;

@@ -9,6 +9,8 @@ use Rattle.kl_model.specs.declared.graph.PieceId.{PieceId}
 use Rattle.kl_model.specs.declared.graph.PieceId.TheVariants.{Section, Common, Gap}
 use Rattle.kl_model.specs.declared.place.AreaAt.{AreaAt}
 use Rattle.kl_model.specs.declared.place.Placed.{Placed}
+use Rattle.kl_model.specs.Areas.{map_name}
+use Rattle.kl_model.specs.declared.area.TheConstants as area
 use Rattle.kl_model.specs.Lists.{each}
 use Rattle.kl_map.specs.declared.map.Map.{Map}
 
@@ -20,16 +22,9 @@ line words = join_with_byte 32 words ++ codes "\n"
 unfoldable pub hexadecimal : ℕ → List ℕ
 hexadecimal n = codes "0x" ++ encode_lower (to_be_bytes w64 n)
 
--- the names of the areas that every image has, by number
-abbrev pub area_names : List (List ℕ)
-area_names =
-    codes "text" ∷ codes "rodata" ∷ codes "data" ∷ codes "bss" ∷ codes "init" ∷ codes "fini" ∷ codes "stubs" ∷
-    codes "eh_frame" ∷ codes "tables" ∷ codes "ctors" ∷ codes "dtors" ∷ codes "init_array" ∷ codes "fini_array" ∷
-    codes "got" ∷ codes "dynamic" ∷ []
-
 -- an area's name by its number: beyond these areas stand the runs, which are numbered from 0
 unfoldable pub area_name : ℕ → List ℕ
-area_name number = unwrap_or (slice_get area_names number) (codes "run" ++ decimal (number - 15))
+area_name number = unwrap_or (map_name number) (codes "run" ++ decimal (number - area.FIRST_RUN))
 
 -- a class as the lines of gaps name it
 abbrev pub class_name : Class → List ℕ

@@ -10,27 +10,9 @@ ghost use Rattle.kl_map.specs.Spelling.{AreaFits, PlacedFits, IsMap};
 use crate::Map;
 use itoa::Buffer;
 use kl_base::{Class, Name, NoMemory};
-use kl_model::{AreaAt, PieceId, Placed};
+use kl_model::area::map_name;
+use kl_model::{AREAS, AreaAt, PieceId, Placed};
 use std::alloc::Global;
-
-// The names of the areas that each image has, by number. The runs follow them.
-const AREA_NAMES: [&str; 15] = [
-    "text",
-    "rodata",
-    "data",
-    "bss",
-    "init",
-    "fini",
-    "stubs",
-    "eh_frame",
-    "tables",
-    "ctors",
-    "dtors",
-    "init_array",
-    "fini_array",
-    "got",
-    "dynamic",
-];
 
 /// The text of a map: its head, a line for each area by number, one for each piece, common and gap in the placement's order,
 /// and `end`. The map keeps what `one_spelling` asks of it. The only error is want of memory.
@@ -130,11 +112,11 @@ fn push_area(text: &mut Vec<u8>, number: usize, area: &AreaAt) -> Result<(), NoM
 fn push_area_name(text: &mut Vec<u8>, number: usize) -> Result<(), NoMemory>
     ensures { OnOk result (text.new.items ≡ text.old.items ++ area_name number) }
 {
-    match AREA_NAMES.get(number) {
-        Some(name) => text.extend_from_slice(name.as_bytes())?,
+    match map_name(number) {
+        Some(name) => text.extend_from_slice(name)?,
         None => {
             text.extend_from_slice(b"run")?;
-            text.extend_from_slice(Buffer::new().format(number - AREA_NAMES.len()).as_bytes())?;
+            text.extend_from_slice(Buffer::new().format(number - AREAS.len()).as_bytes())?;
         }
     }
     Ok(())

@@ -2,9 +2,9 @@
 use Rattle.std.proofs.Common.{ℕ, zero, suc, ◌≡◌, ◌+◌, ◌-◌, ◌%◌, ◌^◌, ◌<◌, ◌≤◌, ◌∙◌, List, [], ◌∷◌, ◌++◌, get_or, refl, ap, arith, Option}
 use Rattle.std.specs.Prelude.{Some, slice_get, flat_map}
 use Rattle.std.proofs.Math.Nat.{lt-div-mul-add}
-use Rattle.kl_model.specs.Kept.{class_number}
+use Rattle.kl_model.specs.Areas.{class_number}
 use Rattle.kl_model.specs.Line.{line, Spread, spreads}
-use Rattle.kl_model.specs.Carries.{span_limit}
+use Rattle.kl_base.specs.declared.limits.TheConstants.{SPAN_LIMIT}
 use Rattle.kl_model.specs.declared.place.Made.{Made}
 use Rattle.kl_model.specs.Laid.{up, area_at, no_area, place_of, Stand, start_of, end_of, IsArea, AreasStand, Laid, ClassLaid, reach, span}
 use Rattle.kl_model.proofs.Addresses.{unwrapped-mod}
@@ -78,7 +78,7 @@ class_is p kit g gaps order made c from l a b f h =
     record { start = omega (arith, both.0, s.0); ordered = omega (arith, both.0, both.1, s.1, e); ends = both.1 ∙ e }
 
 -- the classes of a laid placement are in order
-pub in_order : (p : Placement) (kit : Kit) (g : Graph) (gaps : Option Gaps) (order : List ℕ) (made : Made) → Laid p kit g gaps order made → span kit g gaps order made ≤ span_limit
+pub in_order : (p : Placement) (kit : Kit) (g : Graph) (gaps : Option Gaps) (order : List ℕ) (made : Made) → Laid p kit g gaps order made → span kit g gaps order made ≤ SPAN_LIMIT
     → kit.base ≤ 0xffffffffe0000000 → ((c : Class) → Aligned (line kit g gaps order made c)) → InOrder p
 in_order p kit g gaps order made l small limit a =
     let base = l.base in
@@ -93,7 +93,7 @@ in_order p kit g gaps order made l small limit a =
     let ut : t ≤ up t 4096 = omega arith in
     let ur : r ≤ up r 4096 = omega arith in
     let uw : w ≤ up w 4096 = omega arith in
-    let whole : z ≤ kit.base + span_limit = omega (arith, small) in
+    let whole : z ≤ kit.base + SPAN_LIMIT = omega (arith, small) in
     let text = class_is p kit g gaps order made Text kit.base l.text (a Text) (omega arith) (omega arith) (omega arith) in
     let rodata = class_is p kit g gaps order made Rodata (up t 4096) (rw text.ends at l.rodata) (a Rodata) (omega arith) (omega arith) (omega arith) in
     let rwdata = class_is p kit g gaps order made Rwdata (up r 4096) (rw rodata.ends at l.rwdata) (a Rwdata) (omega arith) (omega arith) (omega arith) in

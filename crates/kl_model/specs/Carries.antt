@@ -1,5 +1,5 @@
 -- What a linked kernel is: an image and a placement that carry the graph of a kit.
-use Rattle.std.specs.Prelude.{ℕ, ◌+◌, ◌-◌, ◌*◌, ◌%◌, ◌^◌, ◌≡◌, ◌<◌, ◌≤◌, ◌⊎◌, Bool, true, false, cond, not, ◌==◌, nat_lt, List, [], ◌∷◌, ◌++◌, map, flat_map, length, max, replicate, slice_index, slice_index_or, unwrap_or, Option, Some, None, IsSomeAnd, IfSome, All, Any, AllPairs}
+use Rattle.std.specs.Prelude.{ℕ, ◌+◌, ◌-◌, ◌*◌, ◌%◌, ◌^◌, ◌≡◌, ◌<◌, ◌≤◌, ◌⊎◌, Bool, true, false, cond, not, ◌==◌, nat_lt, List, [], ◌∷◌, ◌++◌, map, flat_map, length, max, slice_index, slice_index_or, unwrap_or, Option, Some, None, IsSomeAnd, IfSome, All, Any, AllPairs}
 use Rattle.std.specs.Option.{option_map_or}
 use Rattle.std.specs.List.{position_from}
 use Rattle.kl_le.specs.Bytes.{Within, Outside}
@@ -7,12 +7,14 @@ use Rattle.kl_elf.specs.Records.{ehdr_at}
 use Rattle.kl_elf.specs.declared.records.Ehdr.{Ehdr}
 use Rattle.kl_elf.specs.declared.records.Phdr.{Phdr}
 use Rattle.kl_model.specs.Lists.{only_if}
-use Rattle.kl_model.specs.Kept.{input_at, class_number}
+use Rattle.kl_model.specs.Kept.{input_at}
+use Rattle.kl_model.specs.Areas.{class_number}
 use Rattle.kl_model.specs.Graphs.{graph}
-use Rattle.kl_model.specs.Line.{line, classes, every_part, made_of, slots, same_target, is_slot_kind, gap_size}
+use Rattle.kl_model.specs.Line.{line, classes, every_part, made_of, slots, same_target, gap_size}
 use Rattle.kl_model.specs.Laid.{Laid, span, place_of, area_at, no_area, page}
 use Rattle.kl_model.specs.Memory.{segments, mem, num_in}
-use Rattle.kl_model.specs.Reaches.{width, ReachesDirectly, ReachesBySlot}
+use Rattle.kl_model.specs.Relocations.{is_slot_kind, width}
+use Rattle.kl_model.specs.Reaches.{ReachesDirectly, ReachesBySlot}
 use Rattle.kl_base.specs.declared.class.Class.{Class}
 use Rattle.kl_base.specs.declared.class.Class.TheVariants.{Text, Rodata, Rwdata, Bss}
 use Rattle.kl_model.specs.declared.place.Body.TheVariants as body
@@ -28,17 +30,22 @@ use Rattle.kl_model.specs.declared.graph.Target.{Target}
 use Rattle.kl_model.specs.declared.graph.Target.TheVariants.{Place, Abs, Edge, Name, Zero, Gone}
 use Rattle.kl_model.specs.declared.object.Input.{Input}
 use Rattle.kl_model.specs.declared.kit.Kit.{Kit}
+use Rattle.kl_elf.specs.declared.abi.TheConstants.{EM_X86_64, ET_EXEC, EV_CURRENT, IDENT, PF_R, PF_W, PF_X, PT_LOAD}
+use Rattle.kl_elf.specs.declared.records.TheConstants.Ehdr as ehdr
+use Rattle.kl_elf.specs.declared.records.TheConstants.Phdr as phdr
+use Rattle.kl_base.specs.declared.limits.TheConstants.{SPAN_LIMIT}
+use Rattle.kl_model.specs.declared.area.TheConstants as area
 
--- the permission of a class: PF_X 1, PF_W 2, PF_R 4 (gABI)
+-- the permission of a class
 abbrev pub permission : Class → ℕ
-permission Text = 5
-permission Rodata = 4
-permission Rwdata = 6
-permission Bss = 6
+permission Text = PF_R + PF_X
+permission Rodata = PF_R
+permission Rwdata = PF_R + PF_W
+permission Bss = PF_R + PF_W
 
 -- the padding byte of a class, outside the areas `init` and `fini`
 abbrev pub padding : Class → ℕ
-padding Text = 0xcc
+padding Text = area.INT3
 padding Rodata = 0
 padding Rwdata = 0
 padding Bss = 0
@@ -101,9 +108,9 @@ address_of p g (Name n) = 0
 address_of p g Zero = 0
 address_of p g Gone = 0
 
--- the slot of a target stands at `got` (13) plus 8 times its number
+-- the slot of a target stands at `got` plus 8 times its number
 abbrev pub slot_of : Placement → Graph → Target → ℕ
-slot_of p g t = (area_at p 13).start + 8 * unwrap_or (position_from (same_target t) 0 (slots g)) 0
+slot_of p g t = (area_at p area.GOT).start + 8 * unwrap_or (position_from (same_target t) 0 (slots g)) 0
 
 abbrev pub FieldReaches : List ℕ → Placement → Graph → Field → Target → Bool → Type 0
 FieldReaches img p g f Gone b = num_in (mem img) (place_of p g (body.Piece f.piece) + f.offset) (width f.kind) ≡ 0
@@ -115,7 +122,7 @@ Reached img p g = All (λ f. FieldReaches img p g f f.target (is_slot_kind f.kin
 
 -- 5. each slot holds its target's address
 abbrev pub Slots : List ℕ → Placement → Graph → Type 0
-Slots img p g = (k : ℕ) → k < length (slots g) → num_in (mem img) ((area_at p 13).start + 8 * k) 8 ≡ address_of p g (slice_index_or (slots g) k Zero)
+Slots img p g = (k : ℕ) → k < length (slots g) → num_in (mem img) ((area_at p area.GOT).start + 8 * k) 8 ≡ address_of p g (slice_index_or (slots g) k Zero)
 
 -- 6. every other byte of a class is padding
 abbrev pub InPart : Placement → Graph → List LinePart → ℕ → Type 0
@@ -124,11 +131,11 @@ InPart p g parts a = Any (λ x. Within (place_of p g x.body) x.size a) parts
 abbrev pub InArea : Placement → ℕ → ℕ → Type 0
 InArea p n a = ((area_at p n).start ≤ a) × (a < (area_at p n).end)
 
--- the areas `init` (4) and `fini` (5) are padded by the instruction nop
+-- the areas `init` and `fini` are padded by the instruction nop
 pub record Padded (img : List ℕ) (p : Placement) (g : Graph) (line : Class → List LinePart) : Type 0 where
   pub plain : (c : Class) (a : ℕ) → InArea p (class_number c) a → ¬ InPart p g (line c) a
-      → ¬ InArea p 4 a → ¬ InArea p 5 a → Holds img a (padding c) c
-  pub nops : (a : ℕ) → InArea p 4 a ⊎ InArea p 5 a → ¬ InPart p g (line Text) a → Holds img a 0x90 Text
+      → ¬ InArea p area.INIT a → ¬ InArea p area.FINI a → Holds img a (padding c) c
+  pub nops : (a : ℕ) → InArea p area.INIT a ⊎ InArea p area.FINI a → ¬ InPart p g (line Text) a → Holds img a area.NOP Text
 
 -- 7. the headers and the rest of the file
 abbrev pub class_size : Placement → Class → ℕ
@@ -137,7 +144,7 @@ class_size p c = (area_at p (class_number c)).end - (area_at p (class_number c))
 -- the program header of a class (gABI, `Elf64_Phdr`): its offset in the file is a page past its place behind the base
 abbrev pub segment_of : Placement → Class → Phdr
 segment_of p c = record {
-  kind = 1;
+  kind = PT_LOAD;
   flags = permission c;
   offset = page + ((area_at p (class_number c)).start - p.base);
   vaddr = (area_at p (class_number c)).start;
@@ -151,22 +158,19 @@ segment_of p c = record {
 abbrev pub segments_of : Placement → List Phdr
 segments_of p = flat_map (λ c. only_if (not (class_size p c == 0)) (segment_of p c)) classes
 
--- the header of a kernel (gABI, `Elf64_Ehdr`): 64-bit, little-endian, ET_EXEC 2, EM_X86_64 62, no section headers
-abbrev pub ident : List ℕ
-ident = 0x7f ∷ 0x45 ∷ 0x4c ∷ 0x46 ∷ 2 ∷ 1 ∷ 1 ∷ replicate 9 0
-
+-- the header of a kernel (gABI, `Elf64_Ehdr`), which has no section headers
 abbrev pub kernel_head : Placement → Graph → Ehdr
 kernel_head p g = record {
-  ident = ident;
-  kind = 2;
-  machine = 62;
-  version = 1;
+  ident = IDENT;
+  kind = ET_EXEC;
+  machine = EM_X86_64;
+  version = EV_CURRENT;
   entry = option_map_or (address_of p g) g.entry 0;
-  phoff = cond (length (segments_of p) == 0) 0 64;
+  phoff = cond (length (segments_of p) == 0) 0 ehdr.SIZE;
   shoff = 0;
   flags = 0;
-  ehsize = 64;
-  phentsize = 56;
+  ehsize = ehdr.SIZE;
+  phentsize = phdr.SIZE;
   phnum = length (segments_of p);
   shentsize = 0;
   shnum = 0;
@@ -185,17 +189,13 @@ ends_at n (s ∷ ss) = ends_at (max n (file_end s)) ss
 pub record File (img : List ℕ) (p : Placement) (g : Graph) : Type 0 where
   pub head : ehdr_at img 0 ≡ kernel_head p g
   pub segments : segments img ≡ segments_of p
-  pub len : length img ≡ ends_at (64 + 56 * length (segments_of p)) (segments_of p)
-  pub zeros : (k : ℕ) → 64 + 56 * length (segments_of p) ≤ k → All (λ s. Outside s.offset s.filesz k) (segments_of p) → slice_index img k ≡ 0
-
--- the greatest span, in bytes
-abbrev pub span_limit : ℕ
-span_limit = 536870912
+  pub len : length img ≡ ends_at (ehdr.SIZE + phdr.SIZE * length (segments_of p)) (segments_of p)
+  pub zeros : (k : ℕ) → ehdr.SIZE + phdr.SIZE * length (segments_of p) ≤ k → All (λ s. Outside s.offset s.filesz k) (segments_of p) → slice_index img k ≡ 0
 
 -- an image and a placement carry a graph g of these inputs
 pub record CarriesGraph (img : List ℕ) (p : Placement) (kit : Kit) (inputs : List Input) (g : Graph) (gaps : Option Gaps) (order : List ℕ) : Type 0 where
   pub laid : Laid p kit g gaps order (made_of kit g)
-  pub small : span kit g gaps order (made_of kit g) ≤ span_limit
+  pub small : span kit g gaps order (made_of kit g) ≤ SPAN_LIMIT
   pub names : Names p g gaps
   pub apart : Apart p g (every_part g gaps (made_of kit g))
   pub contents : Contents img p inputs g gaps

@@ -8,10 +8,11 @@ use Rattle.kl_model.specs.Lists.{each, only_if}
 use Rattle.kl_model.specs.Kept.{is_kept, input_at}
 use Rattle.kl_model.specs.Names.{Occurrence, occurrences, is_common, is_definition, definition, edge_names}
 use Rattle.kl_model.specs.Graphs.{Missing, Removed, Undefined, target, symbol_at, graph}
-use Rattle.kl_model.specs.Line.{is_slot_kind, same_target, made_of}
+use Rattle.kl_model.specs.Line.{same_target, made_of}
 use Rattle.kl_model.specs.Laid.{span, place_of}
-use Rattle.kl_model.specs.Reaches.{value, in_range}
-use Rattle.kl_model.specs.Carries.{address_of, slot_of, span_limit}
+use Rattle.kl_model.specs.Relocations.{in_range, is_kind, is_slot_kind}
+use Rattle.kl_model.specs.Reaches.{value}
+use Rattle.kl_model.specs.Carries.{address_of, slot_of}
 use Rattle.kl_model.specs.Placed.{placed}
 use Rattle.kl_model.specs.declared.object.Input.{Input}
 use Rattle.kl_model.specs.declared.object.RawField.{RawField}
@@ -26,10 +27,12 @@ use Rattle.kl_model.specs.declared.place.Gaps.{Gaps}
 use Rattle.kl_model.specs.declared.place.Placement.{Placement}
 use Rattle.kl_model.specs.declared.link.LinkFault.{LinkFault}
 use Rattle.kl_model.specs.declared.link.LinkFault.TheVariants as fault
+use Rattle.kl_elf.specs.declared.abi.TheConstants.{R_X86_64_NONE, STB_GLOBAL}
+use Rattle.kl_base.specs.declared.limits.TheConstants.{SPAN_LIMIT}
 
--- a GLOBAL definition (gABI, STB_GLOBAL 1)
+-- a GLOBAL definition
 abbrev pub is_global_definition : Kit → List Input → Occurrence → Bool
-is_global_definition kit inputs o = (o.symbol.binding == 1) && is_definition kit inputs o
+is_global_definition kit inputs o = (o.symbol.binding == STB_GLOBAL) && is_definition kit inputs o
 
 -- each definition of a name that those before define too, with the last of them
 abbrev pub doubled_after : List Occurrence → List Occurrence → List LinkFault
@@ -52,11 +55,6 @@ clashes kit inputs = flat_map (λ e. only_if
 abbrev pub no_entry : Kit → List Input → List LinkFault
 no_entry kit inputs = flat_map (λ name. only_if (is_none (definition kit inputs name)) (fault.NoEntry name)) (option_to_list kit.entry)
 
--- the relocation types that are linked (psABI): NONE 0, 64 1, PC32 2, PLT32 4, GOTPCREL 9, 32 10, 32S 11, 16 12, PC16 13, 8 14,
--- PC8 15, PC64 24, GOTPCRELX 41, REX_GOTPCRELX 42
-abbrev pub is_kind : ℕ → Bool
-is_kind kind = nat_lt kind 3 || ((kind == 4) || ((nat_lt 8 kind && nat_lt kind 16) || ((kind == 24) || ((kind == 41) || (kind == 42)))))
-
 abbrev pub from_of : ℕ → RawField → FieldAt
 from_of i f = record { input = i; section = f.rela; index = f.index }
 
@@ -73,7 +71,7 @@ field_faults kit inputs i f =
 
 -- a field of a kept section, of another type than NONE
 abbrev pub is_kept_field : Kit → List Input → ℕ → RawField → Bool
-is_kept_field kit inputs i f = is_kept kit inputs i f.section && not (f.kind == 0)
+is_kept_field kit inputs i f = is_kept kit inputs i f.section && not (f.kind == R_X86_64_NONE)
 
 abbrev pub input_faults : Kit → List Input → ℕ → Input → List LinkFault
 input_faults kit inputs i x = each x.object.fields (λ k f. cond (is_kept_field kit inputs i f) (field_faults kit inputs i f) [])
@@ -88,7 +86,7 @@ resolve_faults kit inputs = doubled kit inputs ++ (clashes kit inputs ++ (no_ent
 
 -- 5. the span passes the limit
 abbrev pub span_faults : ℕ → List LinkFault
-span_faults n = only_if (nat_lt span_limit n) (fault.Span n span_limit)
+span_faults n = only_if (nat_lt SPAN_LIMIT n) (fault.Span n SPAN_LIMIT)
 
 -- what a field's value leads to (psABI, S or the slot's address), and the field's own address (psABI, P)
 abbrev pub value_target : Placement → Graph → Field → ℕ

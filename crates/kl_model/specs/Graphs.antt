@@ -19,6 +19,8 @@ use Rattle.kl_model.specs.declared.graph.PieceId.TheVariants as id
 use Rattle.kl_model.specs.declared.graph.Piece.{Piece}
 use Rattle.kl_model.specs.declared.graph.Field.{Field}
 use Rattle.kl_model.specs.declared.graph.Graph.{Graph}
+use Rattle.kl_elf.specs.declared.abi.TheConstants.{R_X86_64_NONE, SHN_ABS, SHT_NOBITS, STB_LOCAL, STB_WEAK}
+use Rattle.kl_model.specs.declared.area.TheConstants as area
 
 -- why a symbol has no target: its section isn't kept, or its name has no definition
 pub data Missing : Type 0 where
@@ -31,7 +33,7 @@ symbol_at inputs i y = slice_index_or (input_at inputs i).object.symbols y no_sy
 -- the target of a LOCAL symbol, for a field in section s of input i
 abbrev pub local_target : Kit → List Input → ℕ → ℕ → Symbol → Result Target Missing
 local_target kit inputs i s y =
-    cond (y.section == 0xfff1) (Ok (Abs y.value))
+    cond (y.section == SHN_ABS) (Ok (Abs y.value))
     (cond (is_kept kit inputs i y.section) (Ok (Place (piece_number kit inputs i y.section) y.value))
     (cond (bytes_eq (name_at inputs i s) (codes ".eh_frame")) (Ok Gone) (Err Removed)))
 
@@ -41,17 +43,17 @@ target_or (Some t) r = Ok t
 
 -- the target of a GLOBAL or WEAK symbol in a kernel: an undefined WEAK name has the value 0 (gABI, STB_WEAK)
 abbrev pub global_target : Kit → List Input → List ℕ → ℕ → Result Target Missing
-global_target kit inputs name binding = target_or (definition kit inputs name) (cond (binding == 2) (Ok Zero) (Err Undefined))
+global_target kit inputs name binding = target_or (definition kit inputs name) (cond (binding == STB_WEAK) (Ok Zero) (Err Undefined))
 
 -- the target of symbol y of input i, for a field in its section s; symbol 0 has the value 0 (gABI, STN_UNDEF)
 abbrev pub target : Kit → List Input → ℕ → ℕ → ℕ → Result Target Missing
 target kit inputs i s y =
     let symbol = symbol_at inputs i y in
     cond (y == 0) (Ok (Abs 0))
-    (cond (symbol.binding == 0) (local_target kit inputs i s symbol)
+    (cond (symbol.binding == STB_LOCAL) (local_target kit inputs i s symbol)
     (global_target kit inputs (text_at (input_at inputs i).bytes symbol.name) symbol.binding))
 
--- the piece of a kept section; SHT_NOBITS (8) has no bytes in the file
+-- the piece of a kept section; one of SHT_NOBITS has no bytes in the file
 abbrev pub piece_of : Kit → ℕ → Input → ℕ → Section → Piece
 piece_of kit i x s y = record {
   id = id.Section i s;
@@ -59,7 +61,7 @@ piece_of kit i x s y = record {
   area = area_of kit (text_at x.bytes y.name) y;
   size = y.size;
   align = max y.align 1;
-  bytes = record { at = y.at; len = cond (y.kind == 8) 0 y.size };
+  bytes = record { at = y.at; len = cond (y.kind == SHT_NOBITS) 0 y.size };
 }
 
 abbrev pub section_piece : Kit → List Input → ℕ → Input → ℕ → Section → List Piece
@@ -78,15 +80,15 @@ common_pieces kit inputs = each (common_names kit inputs) (λ k name.
     record {
       id = id.Common k;
       class = Bss;
-      area = 3;
+      area = area.BSS;
       size = fold (λ n o. max n o.symbol.size) 0 all;
       align = fold (λ n o. max n o.symbol.value) 1 all;
       bytes = record { at = 0; len = 0 };
     } ∷ [])
 
--- the field of a relocation entry, where its section is kept and its type isn't R_X86_64_NONE (psABI, 0)
+-- the field of a relocation entry, where its section is kept and its type isn't R_X86_64_NONE
 abbrev pub kept_field : Kit → List Input → ℕ → RawField → List Field
-kept_field kit inputs i f = only_if (is_kept kit inputs i f.section && not (f.kind == 0)) (record {
+kept_field kit inputs i f = only_if (is_kept kit inputs i f.section && not (f.kind == R_X86_64_NONE)) (record {
   from = record { input = i; section = f.rela; index = f.index };
   piece = piece_number kit inputs i f.section;
   offset = f.offset;

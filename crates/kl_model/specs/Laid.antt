@@ -1,7 +1,7 @@
 -- Where the parts of a placement stand, and the span.
 use Rattle.std.specs.Prelude.{ℕ, ◌+◌, ◌-◌, ◌*◌, ◌/◌, ◌%◌, ◌^◌, ◌≡◌, cond, nat_lt, List, [], ◌∷◌, length, slice_get, slice_index_or, Option, Some, IfSome}
 use Rattle.kl_model.specs.Line.{Spread, spreads, line}
-use Rattle.kl_model.specs.Kept.{class_number}
+use Rattle.kl_model.specs.Areas.{class_number}
 use Rattle.kl_base.specs.declared.class.Class.{Class}
 use Rattle.kl_base.specs.declared.class.Class.TheVariants.{Text, Rodata, Rwdata, Bss}
 use Rattle.kl_model.specs.declared.place.Body.{Body}
@@ -15,6 +15,8 @@ use Rattle.kl_model.specs.declared.place.Made.{Made}
 use Rattle.kl_model.specs.declared.place.Placed.{Placed}
 use Rattle.kl_model.specs.declared.place.AreaAt.{AreaAt}
 use Rattle.kl_model.specs.declared.place.Placement.{Placement}
+use Rattle.kl_base.specs.declared.limits.TheConstants.{PAGE}
+use Rattle.kl_model.specs.declared.area.TheConstants as area
 
 -- the least multiple of n at or past a
 abbrev pub up : ℕ → ℕ → ℕ
@@ -22,7 +24,7 @@ up a n = (a + n - 1) / n * n
 
 -- the page of a kernel, in bytes
 abbrev pub page : ℕ
-page = 4096
+page = PAGE
 
 -- what stands past the end of a list
 abbrev pub no_placed : Placed
@@ -88,7 +90,7 @@ pub record Laid (p : Placement) (kit : Kit) (g : Graph) (gaps : Option Gaps) (or
   pub rodata : ClassLaid p kit g gaps order made Rodata (up (class_end p Text) page)
   pub rwdata : ClassLaid p kit g gaps order made Rwdata (up (class_end p Rodata) page)
   pub bss : ClassLaid p kit g gaps order made Bss (up (class_end p Rwdata) page)
-  pub count : length p.areas ≡ 15 + length kit.runs
+  pub count : length p.areas ≡ area.FIRST_RUN + length kit.runs
 
 -- where parts end that are laid from an address on
 abbrev pub reach : ℕ → List LinePart → ℕ

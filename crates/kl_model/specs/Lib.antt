@@ -13,3 +13,5 @@ pub mod Orders
 pub mod Fit
 pub mod Faults
 pub mod Simple
+pub mod Relocations
+pub mod Areas

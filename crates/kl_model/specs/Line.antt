@@ -2,7 +2,9 @@
 use Rattle.std.specs.Prelude.{ℕ, ◌+◌, ◌*◌, Bool, true, false, not, ◌&&◌, ◌||◌, ◌==◌, List, [], ◌∷◌, ◌++◌, flat_map, length, slice_index, Option, Some, None}
 use Rattle.std.specs.List.{list_any}
 use Rattle.kl_model.specs.Lists.{each, only_if}
-use Rattle.kl_model.specs.Kept.{same_class, part_number, class_number}
+use Rattle.kl_model.specs.Relocations.{is_slot_kind}
+use Rattle.kl_model.specs.Kept.{part_number}
+use Rattle.kl_model.specs.Areas.{same_class, class_number}
 use Rattle.kl_base.specs.declared.class.Class.{Class}
 use Rattle.kl_base.specs.declared.class.Class.TheVariants.{Text, Rodata, Rwdata, Bss}
 use Rattle.kl_model.specs.declared.object.Part.{Part}
@@ -19,6 +21,7 @@ use Rattle.kl_model.specs.declared.place.Gaps.{Gaps}
 use Rattle.kl_model.specs.declared.place.Made.{Made}
 use Rattle.kl_model.specs.declared.place.Body.TheVariants as body
 use Rattle.kl_model.specs.declared.place.LinePart.{LinePart}
+use Rattle.kl_model.specs.declared.area.TheConstants as area
 
 -- the four classes in their order in memory
 abbrev pub classes : List Class
@@ -41,10 +44,6 @@ same_target (Name n) (Name m) = n == m
 same_target Zero Zero = true
 same_target Gone Gone = true
 same_target _ _ = false
-
--- the types that need a slot of the global offset table (psABI): GOTPCREL 9, GOTPCRELX 41, REX_GOTPCRELX 42
-abbrev pub is_slot_kind : ℕ → Bool
-is_slot_kind kind = (kind == 9) || ((kind == 41) || (kind == 42))
 
 -- each target that needs a slot, once, in the order of the first field that needs it; those seen before are left out
 abbrev pub slots_after : List Target → List Field → List Target
@@ -110,7 +109,7 @@ ordinary g gaps order c = record { area = None; parts = sequence g order (gap_pa
 -- the runs of a class, in line order
 abbrev pub run_spreads : Kit → Graph → List ℕ → Class → List Spread
 run_spreads kit g order c = each kit.runs (λ k r. only_if (same_class r.class c)
-    (record { area = Some (15 + k); parts = sequence g order [] (of_input g c (15 + k)) }))
+    (record { area = Some (area.FIRST_RUN + k); parts = sequence g order [] (of_input g c (area.FIRST_RUN + k)) }))
 
 -- an area of pieces, which stand in kit order
 abbrev pub area_spread : Graph → ℕ → Spread
@@ -123,12 +122,13 @@ made_parts n size align = only_if (not (size == 0)) (record { body = body.Area n
 abbrev pub made_spread : ℕ → ℕ → ℕ → Spread
 made_spread n size align = record { area = Some n; parts = made_parts n size align }
 
--- what follows the ordinary pieces and the runs in a kernel: init 4, fini 5, stubs 6; eh_frame 7, tables 8, got 13;
--- ctors 9, dtors 10, init_array 11, fini_array 12, dynamic 14; the commons
+-- what follows the ordinary pieces and the runs in a kernel
 abbrev pub last_spreads : Graph → Made → Class → List Spread
-last_spreads g made Text = area_spread g 4 ∷ area_spread g 5 ∷ made_spread 6 made.stubs 16 ∷ []
-last_spreads g made Rodata = area_spread g 7 ∷ made_spread 8 made.tables 8 ∷ made_spread 13 made.got 8 ∷ []
-last_spreads g made Rwdata = area_spread g 9 ∷ area_spread g 10 ∷ area_spread g 11 ∷ area_spread g 12 ∷ made_spread 14 made.dynamic 8 ∷ []
+last_spreads g made Text = area_spread g area.INIT ∷ area_spread g area.FINI ∷ made_spread area.STUBS made.stubs 16 ∷ []
+last_spreads g made Rodata = area_spread g area.EH_FRAME ∷ made_spread area.TABLES made.tables 8 ∷ made_spread area.GOT made.got 8 ∷ []
+last_spreads g made Rwdata =
+    area_spread g area.CTORS ∷ area_spread g area.DTORS ∷ area_spread g area.INIT_ARRAY ∷ area_spread g area.FINI_ARRAY
+    ∷ made_spread area.DYNAMIC made.dynamic 8 ∷ []
 last_spreads g made Bss = record { area = None; parts = piece_parts g (λ x. is_common_id x.id) } ∷ []
 
 abbrev pub spreads : Kit → Graph → Option Gaps → List ℕ → Made → Class → List Spread
@@ -142,4 +142,4 @@ line kit g gaps order made c = flat_map (λ s. s.parts) (spreads kit g gaps orde
 abbrev pub every_part : Graph → Option Gaps → Made → List LinePart
 every_part g gaps made =
     each g.pieces (λ n x. piece_part n x ∷ []) ++ (flat_map (gap_parts gaps) classes
-    ++ (made_parts 6 made.stubs 16 ++ (made_parts 8 made.tables 8 ++ (made_parts 13 made.got 8 ++ made_parts 14 made.dynamic 8))))
+    ++ (made_parts area.STUBS made.stubs 16 ++ (made_parts area.TABLES made.tables 8 ++ (made_parts area.GOT made.got 8 ++ made_parts area.DYNAMIC made.dynamic 8))))

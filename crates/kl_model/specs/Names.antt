@@ -11,8 +11,10 @@ use Rattle.kl_model.specs.declared.object.Symbol.{Symbol}
 use Rattle.kl_model.specs.declared.kit.Kit.{Kit}
 use Rattle.kl_model.specs.declared.graph.Target.{Target}
 use Rattle.kl_model.specs.declared.graph.Target.TheVariants.{Place, Abs, Edge}
+use Rattle.kl_elf.specs.declared.abi.TheConstants.{SHN_ABS, SHN_COMMON, STB_GLOBAL, STB_LOCAL, STB_WEAK, STV_DEFAULT, STV_HIDDEN, STV_PROTECTED}
+use Rattle.kl_model.specs.declared.area.TheConstants as area
 
--- a symbol that isn't LOCAL (gABI, STB_GLOBAL 1 and STB_WEAK 2), with its input and its number there
+-- a symbol that isn't LOCAL, with its input and its number there
 pub record Occurrence : Type 0 where
   pub input : ℕ
   pub number : ℕ
@@ -22,19 +24,19 @@ pub record Occurrence : Type 0 where
 -- all of them, by input and number
 abbrev pub occurrences : List Input → List Occurrence
 occurrences inputs = each inputs (λ i x. each x.object.symbols (λ y s.
-    only_if (not (s.binding == 0)) (record { input = i; number = y; name = text_at x.bytes s.name; symbol = s })))
+    only_if (not (s.binding == STB_LOCAL)) (record { input = i; number = y; name = text_at x.bytes s.name; symbol = s })))
 
 -- those of one name
 abbrev pub occurrences_of : List Input → List ℕ → List Occurrence
 occurrences_of inputs name = filter (λ o. bytes_eq o.name name) (occurrences inputs)
 
--- a common symbol (gABI, SHN_COMMON 0xfff2)
+-- a common symbol (gABI, SHN_COMMON)
 abbrev pub is_common : Occurrence → Bool
-is_common o = o.symbol.section == 0xfff2
+is_common o = o.symbol.section == SHN_COMMON
 
--- a definition stands in a kept section, or is absolute (gABI, SHN_ABS 0xfff1)
+-- a definition stands in a kept section, or is absolute (gABI, SHN_ABS)
 abbrev pub is_definition : Kit → List Input → Occurrence → Bool
-is_definition kit inputs o = (o.symbol.section == 0xfff1) || (not (is_common o) && is_kept kit inputs o.input o.symbol.section)
+is_definition kit inputs o = (o.symbol.section == SHN_ABS) || (not (is_common o) && is_kept kit inputs o.input o.symbol.section)
 
 -- the first definition of a name with this binding
 abbrev pub first_definition : Kit → List Input → ℕ → List ℕ → Option Occurrence
@@ -49,7 +51,7 @@ names_once seen (n ∷ ns) =
 
 -- a common holds where no GLOBAL definition has its name
 abbrev pub holds_common : Kit → List Input → Occurrence → Bool
-holds_common kit inputs o = is_common o && is_none (first_definition kit inputs 1 o.name)
+holds_common kit inputs o = is_common o && is_none (first_definition kit inputs STB_GLOBAL o.name)
 
 -- the names of the commons that hold, in the order of their first common symbols
 abbrev pub common_names : Kit → List Input → List (List ℕ)
@@ -65,7 +67,7 @@ piece_number kit inputs i s = unwrap_or (position_from (λ p. (p.0 == i) && (p.1
 
 -- where a definition leads
 abbrev pub place_of : Kit → List Input → Occurrence → Target
-place_of kit inputs o = cond (o.symbol.section == 0xfff1) (Abs o.symbol.value) (Place (piece_number kit inputs o.input o.symbol.section) o.symbol.value)
+place_of kit inputs o = cond (o.symbol.section == SHN_ABS) (Abs o.symbol.value) (Place (piece_number kit inputs o.input o.symbol.section) o.symbol.value)
 
 -- the common of a name leads to the start of its piece; commons are numbered behind the kept sections
 abbrev pub common_place : Kit → List Input → List ℕ → Option Target
@@ -80,22 +82,22 @@ by_line e (x ∷ xs) = cond (nat_lt e.0 x.0) (e ∷ x ∷ xs) (x ∷ by_line e x
 -- the names that the kit's `run` and `edge` lines give, in line order, each with its edge
 abbrev pub edge_names : Kit → List (List ℕ × Target)
 edge_names kit = flat_map (λ x. x.1) (fold (λ xs e. by_line e xs) []
-    (each_from 15 (λ k r. (r.line, (r.start, Edge k false) ∷ (r.end, Edge k true) ∷ []) ∷ []) kit.runs
+    (each_from area.FIRST_RUN (λ k r. (r.line, (r.start, Edge k false) ∷ (r.end, Edge k true) ∷ []) ∷ []) kit.runs
     ++ map (λ e. (e.line, (e.symbol, Edge e.area e.end) ∷ [])) kit.edges))
 
 -- The definition of a name is the first of these: its GLOBAL definition, its common, its first WEAK definition, its edge
 -- (gABI, "Symbol Table"; edges are this project's own).
 abbrev pub definition : Kit → List Input → List ℕ → Option Target
 definition kit inputs name =
-    option_or (option_map (place_of kit inputs) (first_definition kit inputs 1 name))
+    option_or (option_map (place_of kit inputs) (first_definition kit inputs STB_GLOBAL name))
     (option_or (common_place kit inputs name)
-    (option_or (option_map (place_of kit inputs) (first_definition kit inputs 2 name))
+    (option_or (option_map (place_of kit inputs) (first_definition kit inputs STB_WEAK name))
     (option_map (λ e. e.1) (find (λ e. bytes_eq e.0 name) (edge_names kit)))))
 
--- visibilities from least to most constraining (gABI): STV_DEFAULT 0, STV_PROTECTED 3, STV_HIDDEN 2, STV_INTERNAL 1
+-- visibilities from least to most constraining (gABI): STV_DEFAULT, STV_PROTECTED, STV_HIDDEN, STV_INTERNAL
 abbrev pub rank : ℕ → ℕ
-rank v = cond (v == 0) 0 (cond (v == 3) 1 (cond (v == 2) 2 3))
+rank v = cond (v == STV_DEFAULT) 0 (cond (v == STV_PROTECTED) 1 (cond (v == STV_HIDDEN) 2 3))
 
 -- the most constraining visibility among all occurrences of a name
 abbrev pub visibility : List Input → List ℕ → ℕ
-visibility inputs name = fold (λ v o. cond (nat_lt (rank v) (rank o.symbol.visibility)) o.symbol.visibility v) 0 (occurrences_of inputs name)
+visibility inputs name = fold (λ v o. cond (nat_lt (rank v) (rank o.symbol.visibility)) o.symbol.visibility v) STV_DEFAULT (occurrences_of inputs name)

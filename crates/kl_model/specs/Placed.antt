@@ -1,10 +1,11 @@
 -- The placement of a graph as a computation. That it is laid out, and that there is no other, is a law on the linker's layout.
-use Rattle.std.specs.Prelude.{ℕ, ◌+◌, ◌%◌, ◌^◌, Bool, false, cond, ◌==◌, List, [], ◌∷◌, ◌++◌, map, unwrap_or, Option, Some, None}
+use Rattle.std.specs.Prelude.{ℕ, ◌+◌, ◌-◌, ◌%◌, ◌^◌, Bool, false, cond, ◌==◌, List, [], ◌∷◌, ◌++◌, map, unwrap_or, Option, Some, None}
 use Rattle.std.specs.Option.{option_or, option_map_or}
+use Rattle.std.specs.List.{range_with_len}
 use Rattle.kl_base.specs.declared.class.Class.{Class}
 use Rattle.kl_base.specs.declared.class.Class.TheVariants.{Text, Rodata, Rwdata, Bss}
 use Rattle.kl_model.specs.Lists.{each, each_from}
-use Rattle.kl_model.specs.Kept.{same_class}
+use Rattle.kl_model.specs.Areas.{same_class}
 use Rattle.kl_model.specs.Line.{Spread, spreads, line, classes, gap_size}
 use Rattle.kl_model.specs.Laid.{up, page, reach, no_area}
 use Rattle.kl_model.specs.declared.place.Body.{Body}
@@ -18,6 +19,7 @@ use Rattle.kl_model.specs.declared.place.Placement.{Placement}
 use Rattle.kl_model.specs.declared.graph.PieceId.TheVariants as id
 use Rattle.kl_model.specs.declared.graph.Graph.{Graph}
 use Rattle.kl_model.specs.declared.kit.Kit.{Kit}
+use Rattle.kl_model.specs.declared.area.TheConstants as area
 
 abbrev pub same_body : Body → Body → Bool
 same_body (body.Piece n) (body.Piece m) = n == m
@@ -83,6 +85,6 @@ module _ (kit : Kit) (g : Graph) (gaps : Option Gaps) (order : List ℕ) (made :
   placed = record {
     base = kit.base;
     areas = map class_extent classes
-        ++ (map area_extent (4 ∷ 5 ∷ 6 ∷ 7 ∷ 8 ∷ 9 ∷ 10 ∷ 11 ∷ 12 ∷ 13 ∷ 14 ∷ []) ++ each_from 15 (λ n r. area_extent n ∷ []) kit.runs);
+        ++ (map area_extent (range_with_len area.INIT (area.FIRST_RUN - area.INIT)) ++ each_from area.FIRST_RUN (λ n r. area_extent n ∷ []) kit.runs);
     pieces = each g.pieces (λ n x. record { id = x.id; address = stop_in x.class (body.Piece n); size = x.size } ∷ []) ++ placed_gaps gaps;
   }

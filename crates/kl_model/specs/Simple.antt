@@ -3,12 +3,12 @@ use Rattle.std.specs.Prelude.{ℕ, ◌^◌, ◌⊎◌, AllPairs, IfSome, ◌+◌
 use Rattle.std.specs.List.{list_all, list_any}
 use Rattle.kl_base.specs.declared.class.Class.TheVariants.{Text}
 use Rattle.kl_model.specs.Texts.{text_at, has}
-use Rattle.kl_model.specs.Kept.{named_area, input_at}
-use Rattle.kl_model.specs.Reaches.{width}
+use Rattle.kl_model.specs.Kept.{input_at}
+use Rattle.kl_model.specs.Areas.{named_area}
+use Rattle.kl_model.specs.Relocations.{is_kind, width}
 use Rattle.kl_model.specs.Carries.{piece_at}
 use Rattle.kl_model.specs.Line.{classes}
-use Rattle.kl_model.specs.Fit.{section_in, size_limit}
-use Rattle.kl_model.specs.Faults.{is_kind}
+use Rattle.kl_model.specs.Fit.{section_in}
 use Rattle.kl_model.specs.declared.object.Section.{Section}
 use Rattle.kl_model.specs.declared.object.Symbol.{Symbol}
 use Rattle.kl_model.specs.declared.object.RawField.{RawField}
@@ -23,6 +23,9 @@ use Rattle.kl_model.specs.declared.graph.Field.{Field}
 use Rattle.kl_model.specs.declared.graph.Target.{Target}
 use Rattle.kl_model.specs.declared.graph.Target.TheVariants.{Place, Abs, Edge, Name, Zero, Gone}
 use Rattle.kl_model.specs.declared.graph.Graph.{Graph}
+use Rattle.kl_elf.specs.declared.abi.TheConstants.{R_X86_64_64, R_X86_64_NONE, R_X86_64_PC32, R_X86_64_PLT32, SHF_ALLOC, SHF_COMPRESSED, SHF_EXCLUDE, SHF_EXECINSTR, SHF_GROUP, SHF_INFO_LINK, SHF_MERGE, SHF_STRINGS, SHF_TLS, SHF_WRITE, SHN_COMMON, SHT_PROGBITS, STB_GLOBAL, STB_LOCAL, STV_DEFAULT}
+use Rattle.kl_base.specs.declared.limits.TheConstants.{ALIGN_POWER_LIMIT, FIELD_COUNT_LIMIT, INPUT_COUNT_LIMIT, SIZE_LIMIT}
+use Rattle.kl_model.specs.declared.area.TheConstants as area
 
 abbrev pub is_empty : {X : Type 0} → List X → Bool
 is_empty [] = true
@@ -32,25 +35,29 @@ abbrev pub is_kernel : KitKind → Bool
 is_kernel Kernel = true
 is_kernel Library = false
 
--- the flags of a section that have a meaning here (gABI): SHF_WRITE 1, SHF_ALLOC 2, SHF_EXECINSTR 4, SHF_MERGE 0x10,
--- SHF_STRINGS 0x20, SHF_INFO_LINK 0x40, SHF_GROUP 0x200, SHF_TLS 0x400, SHF_COMPRESSED 0x800, SHF_EXCLUDE 0x80000000
+-- the flags of a section that have a meaning here (gABI)
 abbrev pub known_flags : ℕ
-known_flags = 0x80000e77
+known_flags =
+    SHF_WRITE + SHF_ALLOC + SHF_EXECINSTR + SHF_MERGE + SHF_STRINGS + SHF_INFO_LINK + SHF_GROUP + SHF_TLS + SHF_COMPRESSED + SHF_EXCLUDE
 
--- an allocated section is SHT_PROGBITS (1) with SHF_ALLOC and SHF_EXECINSTR alone, and its name is no area's
+-- an allocated section is of SHT_PROGBITS with SHF_ALLOC and SHF_EXECINSTR alone, and its name is no area's
 abbrev pub is_simple_section : List ℕ → Section → Bool
 is_simple_section b s =
-    not (has s.flags 2)
-    || ((s.kind == 1) && ((bit_and s.flags known_flags == 6) && list_all (λ c. is_none (named_area c (text_at b s.name))) classes))
+    not (has s.flags SHF_ALLOC)
+    || ((s.kind == SHT_PROGBITS) && ((bit_and s.flags known_flags == SHF_ALLOC + SHF_EXECINSTR) && list_all (λ c. is_none (named_area c (text_at b s.name))) classes))
 
 -- a symbol that isn't LOCAL is GLOBAL, DEFAULT and no common
 abbrev pub is_simple_symbol : Symbol → Bool
-is_simple_symbol y = (y.binding == 0) || ((y.binding == 1) && ((y.visibility == 0) && not (y.section == 0xfff2)))
+is_simple_symbol y = (y.binding == STB_LOCAL) || ((y.binding == STB_GLOBAL) && ((y.visibility == STV_DEFAULT) && not (y.section == SHN_COMMON)))
 
--- a field of an allocated section has the type NONE (0), 64 (1), PC32 (2) or PLT32 (4), or one that isn't linked (psABI)
+-- the relocation types that are linked so far
+abbrev pub simple_kinds : List ℕ
+simple_kinds = R_X86_64_NONE ∷ R_X86_64_64 ∷ R_X86_64_PC32 ∷ R_X86_64_PLT32 ∷ []
+
+-- a field of an allocated section has one of them, or one that isn't linked at all
 abbrev pub is_simple_field : Object → RawField → Bool
 is_simple_field x f =
-    not (has (section_in x f.section).flags 2) || (list_any (λ k. f.kind == k) (0 ∷ 1 ∷ 2 ∷ 4 ∷ []) || not (is_kind f.kind))
+    not (has (section_in x f.section).flags SHF_ALLOC) || (list_any (λ k. f.kind == k) simple_kinds || not (is_kind f.kind))
 
 abbrev pub is_simple_input : Input → Bool
 is_simple_input x =
@@ -70,16 +77,16 @@ pub record IsSimplePiece (inputs : ℕ) (x : Piece) : Type 0 where
   pub from : x.id ≡ id.Section input section
   pub known : input < inputs
   pub class : x.class ≡ Text
-  pub area : x.area ≡ 0
-  pub size : x.size ≤ size_limit
-  pub align : (k : ℕ) × (k ≤ 21) × (x.align ≡ 2 ^ k)
+  pub area : x.area ≡ area.TEXT
+  pub size : x.size ≤ SIZE_LIMIT
+  pub align : (k : ℕ) × (k ≤ ALIGN_POWER_LIMIT) × (x.align ≡ 2 ^ k)
 
 -- The graph of such a kit, as far as it is laid out.
 pub record IsSimpleGraph (kit : Kit) (g : Graph) : Type 0 where
   pub no_runs : kit.runs ≡ []
   pub pieces : All (IsSimplePiece (length g.parts)) g.pieces
-  pub count : length g.pieces < 2 ^ 23
-  pub inputs : length g.parts ≤ 16384
+  pub count : length g.pieces < FIELD_COUNT_LIMIT
+  pub inputs : length g.parts ≤ INPUT_COUNT_LIMIT
 
 -- A piece with all of its bytes in the file of its input.
 pub record IsSourced (inputs : List Input) (x : Piece) : Type 0 where
@@ -101,7 +108,7 @@ IsSimpleTarget g Gone = ⊥
 
 -- A field of the type 64, PC32 or PLT32 in the bytes of a piece.
 pub record IsSimpleField (g : Graph) (f : Field) : Type 0 where
-  pub kind : (f.kind ≡ 1) ⊎ ((f.kind ≡ 2) ⊎ (f.kind ≡ 4))
+  pub kind : (f.kind ≡ R_X86_64_64) ⊎ ((f.kind ≡ R_X86_64_PC32) ⊎ (f.kind ≡ R_X86_64_PLT32))
   pub piece : f.piece < length g.pieces
   pub inside : f.offset + width f.kind ≤ (piece_at g f.piece).size
   pub target : IsSimpleTarget g f.target
@@ -115,5 +122,5 @@ pub record IsWritable (inputs : List Input) (g : Graph) : Type 0 where
   pub pieces : All (IsSourced inputs) g.pieces
   pub fields : All (IsSimpleField g) g.fields
   pub apart : AllPairs StandApart g.fields
-  pub count : length g.fields ≤ 2 ^ 23
+  pub count : length g.fields ≤ FIELD_COUNT_LIMIT
   pub entry : IfSome g.entry (IsSimpleTarget g)

@@ -7,6 +7,7 @@ use Rattle.kl_rel.specs.Headers.{head, header_place, section}
 use Rattle.kl_rel.specs.Sections.{is_allocated, is_too_large, no_name, section_name, names, flags_checks, form_checks, section_checks, section_flaw_of, sections_flaw}
 use Rattle.kl_rel.specs.declared.fault.ReadKind.TheVariants.{SectionRange}
 use Rattle.kl_rel.proofs.Places.{none_in, not_stands, none_at, section_where}
+use Rattle.kl_base.specs.declared.limits.TheConstants.{SIZE_LIMIT}
 
 -- the checks of a section of the table find nothing
 pub section_passes : (b : List ℕ) (n : ℕ) → sections_flaw b ≡ None → 1 ≤ n → n < (head b).shnum → first_of (section_checks b (names b) (header_place b n) (section b n)) ≡ None
@@ -22,12 +23,12 @@ form_passes b n e is =
     let none = none_in (section_checks b (names b) (header_place b n) (section b n)) 2 (section_passes b n e here.low here.high) in
     rw is at none
 
-pub size_limited : (b : List ℕ) (n : ℕ) → sections_flaw b ≡ None → is_allocated (section b n) ≡ true → (section b n).size ≤ 2 ^ 30
+pub size_limited : (b : List ℕ) (n : ℕ) → sections_flaw b ≡ None → is_allocated (section b n) ≡ true → (section b n).size ≤ SIZE_LIMIT
 unfolding form_checks
 size_limited b n e is =
     let none = not_stands (is_too_large (section b n).size) SectionRange (header_place b n + 32)
     (none_in (form_checks b (header_place b n) (unwrap_or (section_name b (names b) (section b n)) no_name) (section b n)) 3 (form_passes b n e is)) in
-    ltb-false (2 ^ 30) (section b n).size none
+    ltb-false (SIZE_LIMIT) (section b n).size none
 
 pub flags_passes : (b : List ℕ) (n : ℕ) → sections_flaw b ≡ None → is_allocated (section b n) ≡ true → first_of (flags_checks (header_place b n) (section b n)) ≡ None
 unfolding section_checks

@@ -6,7 +6,7 @@ use Rattle.std.specs.List.{list_any, range_with_len, All}
 use Rattle.std.proofs.lemmas.List.Folds.{list_any-append}
 use Rattle.std.proofs.lemmas.List.Elements.{All-head, All-tail}
 use Rattle.std.proofs.lemmas.Bool.Decides.{nat_tests}
-use Rattle.kl_model.specs.Reaches.{width}
+use Rattle.kl_model.specs.Relocations.{width}
 use Rattle.kl_model.specs.declared.object.RawField.{RawField}
 use Rattle.kl_rel.specs.Relocations.{is_byte_of, is_taken, shares_byte}
 use Rattle.kl_rel.specs.FieldLists.{byte_cmp}

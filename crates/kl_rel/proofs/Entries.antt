@@ -13,6 +13,7 @@ use Rattle.kl_rel.specs.declared.fault.ReadFault.{ReadFault}
 use Rattle.kl_rel.specs.declared.fault.ReadKind.TheVariants.{RelaLink}
 use Rattle.kl_rel.proofs.Places.{none_in, not_stands, section_of_type}
 use Rattle.kl_rel.proofs.Passes.{map-more, flat_map-more}
+use Rattle.kl_elf.specs.declared.records.TheConstants.Rela as rela
 
 -- one entry more
 pub before-more : (b : List ℕ) (n k : ℕ) → fields_before b n (k + 1) ≡ fields_before b n k ++ field_of b n k ∷ []
@@ -31,7 +32,7 @@ before-section b n low =
     let more = rw f at (flat_map-more (fields_of b) 1 (n - 1)) in
     rw e (append-nil (flat_map (fields_of b) (range_with_len 1 ((n - 1) + 1))) ∙ more)
 
-pub before-read : (b : List ℕ) (n : ℕ) → 1 ≤ n → is_read b (section b n) ≡ true → fields_before b (n + 1) 0 ≡ fields_before b n ((section b n).size / 24)
+pub before-read : (b : List ℕ) (n : ℕ) → 1 ≤ n → is_read b (section b n) ≡ true → fields_before b (n + 1) 0 ≡ fields_before b n ((section b n).size / rela.SIZE)
 unfolding fields_before fields_of
 before-read b n low is = before-section b n low ∙ rw is refl
 

@@ -9,7 +9,7 @@ use Rattle.std.proofs.lemmas.List.FromFn.{length-range_with_len, get_or-range_wi
 use Rattle.std.proofs.lemmas.List.Quantifiers.{all_pairs_push}
 use Rattle.kl_le.specs.Bytes.{Within}
 use Rattle.kl_model.specs.Kept.{no_section}
-use Rattle.kl_model.specs.Reaches.{width}
+use Rattle.kl_model.specs.Relocations.{width}
 use Rattle.kl_model.specs.Fit.{IsSectionNumber, IsFitField, ShareNoByte, ComesBefore, section_in}
 use Rattle.kl_model.specs.declared.object.RawField.{RawField}
 use Rattle.kl_rel.specs.Flaws.{first_of}
@@ -23,6 +23,7 @@ use Rattle.kl_rel.proofs.Places.{none_in, none_at, none_first, none_rest, not_st
 use Rattle.kl_rel.proofs.Entries.{before-start, before-read, before-passed, before-all, before-more, target_allocated}
 use Rattle.kl_rel.proofs.Symbols.{made-at, sections-length, symbols-length}
 use Rattle.kl_rel.proofs.FitSections.{all_made}
+use Rattle.kl_elf.specs.declared.records.TheConstants.Rela as rela
 
 -- what holds of each item of lists that are made number by number
 pub all_over : {X : Type 0} (P : X → Type 0) (f : ℕ → List X) (a n : ℕ) → ((i : ℕ) → i < n → All P (f (a + i))) → All P (flat_map f (range_with_len a n))
@@ -54,15 +55,15 @@ pub rela_passes : (b : List ℕ) (n : ℕ) → relocations_flaw b ≡ None → 1
 unfolding relocations_flaw
 rela_passes b n e low high = none_at (rela_flaw_of b) 1 ((head b).shnum - 1) n e low (omega arith)
 
-pub entry_passes : (b : List ℕ) (n k : ℕ) → relocations_flaw b ≡ None → 1 ≤ n → n < (head b).shnum → is_read b (section b n) ≡ true → k < (section b n).size / 24 → entry_flaw_of b n k ≡ None
+pub entry_passes : (b : List ℕ) (n k : ℕ) → relocations_flaw b ≡ None → 1 ≤ n → n < (head b).shnum → is_read b (section b n) ≡ true → k < (section b n).size / rela.SIZE → entry_flaw_of b n k ≡ None
 unfolding entries_flaw
 entry_passes b n k e low high is h =
     let rest = none_rest (first_of (rela_checks b (header_place b n) (section b n))) _ (rela_passes b n e low high) in
     let entries = rw is at rest in
-    none_at (entry_flaw_of b n) 0 ((section b n).size / 24) k (none_first (entries_flaw b n) None entries) (omega arith) (omega arith)
+    none_at (entry_flaw_of b n) 0 ((section b n).size / rela.SIZE) k (none_first (entries_flaw b n) None entries) (omega arith) (omega arith)
 
 -- a field of a file without a flaw
-pub field_is_fit : (b : List ℕ) (n k : ℕ) → relocations_flaw b ≡ None → 1 ≤ n → n < (head b).shnum → is_read b (section b n) ≡ true → k < (section b n).size / 24 → IsFitField (object b) (field_of b n k)
+pub field_is_fit : (b : List ℕ) (n k : ℕ) → relocations_flaw b ≡ None → 1 ≤ n → n < (head b).shnum → is_read b (section b n) ≡ true → k < (section b n).size / rela.SIZE → IsFitField (object b) (field_of b n k)
 unfolding entry_checks rela_checks object listed_section
 field_is_fit b n k e low high is h = record {
   rela = number_of b n low high;
@@ -106,8 +107,8 @@ unfolding fields_in fields_of
 fields_are_fit b e = all_over (IsFitField (object b)) (fields_of b) 1 ((head b).shnum - 1) (λ i h. of_section (1 + i) (omega arith) (omega arith) (is_read b (section b (1 + i))) refl)
   where
     of_section : (n : ℕ) → 1 ≤ n → n < (head b).shnum → (x : Bool) → is_read b (section b n) ≡ x
-        → All (IsFitField (object b)) (cond x (map (field_of b n) (range_with_len 0 ((section b n).size / 24))) [])
-    of_section n low high true is = all_made (IsFitField (object b)) (field_of b n) 0 ((section b n).size / 24) (λ k h.
+        → All (IsFitField (object b)) (cond x (map (field_of b n) (range_with_len 0 ((section b n).size / rela.SIZE))) [])
+    of_section n low high true is = all_made (IsFitField (object b)) (field_of b n) 0 ((section b n).size / rela.SIZE) (λ k h.
         let same : 0 + k ≡ k = omega arith in
         rw same (field_is_fit b n k e low high is h))
     of_section n low high false is = λ k d h. absurd (omega arith)
@@ -141,8 +142,8 @@ all_before b n k = All-append (λ f. ComesBefore f (field_of b n k)) (flat_map (
     (all_over (λ f. ComesBefore f (field_of b n k)) (fields_of b) 1 (n - 1) (λ i h. earlier (1 + i) (omega arith) (is_read b (section b (1 + i)))))
     (all_made (λ f. ComesBefore f (field_of b n k)) (field_of b n) 0 k (λ i h. inr (refl, omega arith)))
   where
-    earlier : (m : ℕ) → m < n → (x : Bool) → All (λ f. ComesBefore f (field_of b n k)) (cond x (map (field_of b m) (range_with_len 0 ((section b m).size / 24))) [])
-    earlier m less true = all_made (λ f. ComesBefore f (field_of b n k)) (field_of b m) 0 ((section b m).size / 24) (λ i h. inl less)
+    earlier : (m : ℕ) → m < n → (x : Bool) → All (λ f. ComesBefore f (field_of b n k)) (cond x (map (field_of b m) (range_with_len 0 ((section b m).size / rela.SIZE))) [])
+    earlier m less true = all_made (λ f. ComesBefore f (field_of b n k)) (field_of b m) 0 ((section b m).size / rela.SIZE) (λ i h. inl less)
     earlier m less false = λ i d h. absurd (omega arith)
 
 -- what holds of each entry and each field before it holds of any two fields
@@ -155,7 +156,7 @@ entries_pair b R n count (suc k) step le pairs =
     rw (e, before-more b n k) (all_pairs_push R (fields_before b n k) (field_of b n k) so_far (step k (omega arith)))
 
 sections_pair : (b : List ℕ) (R : RawField → RawField → Type 0) (m : ℕ)
-    → ((n k : ℕ) → 1 ≤ n → n < (head b).shnum → is_read b (section b n) ≡ true → k < (section b n).size / 24 → (i : ℕ) (d : RawField) → i < length (fields_before b n k) → R (get_or (fields_before b n k) i d) (field_of b n k))
+    → ((n k : ℕ) → 1 ≤ n → n < (head b).shnum → is_read b (section b n) ≡ true → k < (section b n).size / rela.SIZE → (i : ℕ) (d : RawField) → i < length (fields_before b n k) → R (get_or (fields_before b n k) i d) (field_of b n k))
     → m < (head b).shnum → AllPairs R (fields_before b (m + 1) 0)
 sections_pair b R zero step le = let e : zero + 1 ≡ 1 = omega arith in rw (e, before-start b) (λ i j d less short. absurd (omega arith))
 sections_pair b R (suc m) step le =
@@ -165,11 +166,11 @@ sections_pair b R (suc m) step le =
   where
     go : (x : Bool) → is_read b (section b (m + 1)) ≡ x → AllPairs R (fields_before b (m + 1) 0) → AllPairs R (fields_before b (m + 1 + 1) 0)
     go true is so_far = rw (before-read b (m + 1) (omega arith) is)
-        (entries_pair b R (m + 1) ((section b (m + 1)).size / 24) ((section b (m + 1)).size / 24) (λ k h. step (m + 1) k (omega arith) (omega arith) is h) (omega arith) so_far)
+        (entries_pair b R (m + 1) ((section b (m + 1)).size / rela.SIZE) ((section b (m + 1)).size / rela.SIZE) (λ k h. step (m + 1) k (omega arith) (omega arith) is h) (omega arith) so_far)
     go false is so_far = rw (before-passed b (m + 1) (omega arith) is) so_far
 
 all_pairs : (b : List ℕ) (R : RawField → RawField → Type 0) → 0 < (head b).shnum
-    → ((n k : ℕ) → 1 ≤ n → n < (head b).shnum → is_read b (section b n) ≡ true → k < (section b n).size / 24 → (i : ℕ) (d : RawField) → i < length (fields_before b n k) → R (get_or (fields_before b n k) i d) (field_of b n k))
+    → ((n k : ℕ) → 1 ≤ n → n < (head b).shnum → is_read b (section b n) ≡ true → k < (section b n).size / rela.SIZE → (i : ℕ) (d : RawField) → i < length (fields_before b n k) → R (get_or (fields_before b n k) i d) (field_of b n k))
     → AllPairs R (fields_in b)
 all_pairs b R some step =
     let e : (head b).shnum - 1 + 1 - 1 ≡ (head b).shnum - 1 = omega arith in

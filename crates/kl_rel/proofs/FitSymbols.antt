@@ -21,6 +21,8 @@ use Rattle.kl_rel.proofs.Tables.{strings_lie}
 use Rattle.kl_rel.proofs.Symbols.{symbol-at, symbols-length, sections-length, form_passes, place_passes}
 use Rattle.kl_rel.proofs.Powers.{power_alignment}
 use Rattle.kl_rel.proofs.FitSections.{all_made, empty_name, string_name}
+use Rattle.kl_elf.specs.declared.abi.TheConstants.{SHN_COMMON}
+use Rattle.kl_base.specs.declared.limits.TheConstants.{SIZE_LIMIT}
 
 -- what the checks of a symbol's place say of it
 pub record IsPlaced (count : ℕ) (y : Sym) : Type 0 where
@@ -61,13 +63,13 @@ second true y ex e = e
 second false y ex e = cc
 
 -- its section is absolute, common, undefined or one of the file
-places : (count shnum : ℕ) (y : Sym) → count ≡ shnum - 1 → 0 < shnum → has_section shnum y ≡ true → (y.shndx ≡ 0xfff1) ⊎ ((y.shndx ≡ 0xfff2) ⊎ ((y.shndx ≤ count) × (y.shndx < 0xff00)))
+places : (count shnum : ℕ) (y : Sym) → count ≡ shnum - 1 → 0 < shnum → has_section shnum y ≡ true → (y.shndx ≡ 0xfff1) ⊎ ((y.shndx ≡ SHN_COMMON) ⊎ ((y.shndx ≤ count) × (y.shndx < 0xff00)))
 places count shnum y ec some has = go (is_reserved y.shndx) refl (y.shndx == 0xfff1) refl (is_common y) refl (nat_lt y.shndx shnum) refl has
   where
     go : (r : Bool) → is_reserved y.shndx ≡ r → (a : Bool) → (y.shndx == 0xfff1) ≡ a → (c : Bool) → is_common y ≡ c → (w : Bool) → nat_lt y.shndx shnum ≡ w → cond r (a || c) w ≡ true
-        → (y.shndx ≡ 0xfff1) ⊎ ((y.shndx ≡ 0xfff2) ⊎ ((y.shndx ≤ count) × (y.shndx < 0xff00)))
+        → (y.shndx ≡ 0xfff1) ⊎ ((y.shndx ≡ SHN_COMMON) ⊎ ((y.shndx ≤ count) × (y.shndx < 0xff00)))
     go true er true ea c ecm w ew e = inl (eqb-true y.shndx 0xfff1 ea)
-    go true er false ea true ecm w ew e = inr (inl (eqb-true y.shndx 0xfff2 ecm))
+    go true er false ea true ecm w ew e = inr (inl (eqb-true y.shndx SHN_COMMON ecm))
     go true er false ea false ecm w ew e = cc
     go false er a ea c ecm true ew e =
         let low = leb-false 0xff00 y.shndx er in
@@ -85,9 +87,9 @@ symbol_is_fit b count k ec some ranges form e low high = record {
   kind = omega arith;
   visibility = omega arith;
   section = places count (head b).shnum y ec some placed.known;
-  value = λ above below. ltb-false (2 ^ 30) y.value (second (is_in_section y.shndx) (is_too_large y.value) (in_section above below) placed.value);
+  value = λ above below. ltb-false SIZE_LIMIT y.value (second (is_in_section y.shndx) (is_too_large y.value) (in_section above below) placed.value);
   align = λ common. aligned common;
-  size = λ common. ltb-false (2 ^ 30) y.size (second (is_common y) (is_too_large y.size) (eq-eqb y.shndx 0xfff2 common) placed.size);
+  size = λ common. ltb-false SIZE_LIMIT y.size (second (is_common y) (is_too_large y.size) (eq-eqb y.shndx SHN_COMMON common) placed.size);
 }
   where
     y : Sym
@@ -108,8 +110,8 @@ symbol_is_fit b count k ec some ranges form e low high = record {
     in_section : 0 < (sym_at b (symbol_place b k)).shndx → (sym_at b (symbol_place b k)).shndx < 0xff00 → is_in_section (sym_at b (symbol_place b k)).shndx ≡ true
     in_section above below = rw (ne_eqb (sym_at b (symbol_place b k)).shndx 0 (omega arith), lt-leb 0xff00 (sym_at b (symbol_place b k)).shndx below) refl
 
-    aligned : (sym_at b (symbol_place b k)).shndx ≡ 0xfff2 → IsAlignment (sym_at b (symbol_place b k)).value
-    aligned common = power_alignment (sym_at b (symbol_place b k)).value (not_false (is_alignment (sym_at b (symbol_place b k)).value) (second (is_common (sym_at b (symbol_place b k))) (not (is_alignment (sym_at b (symbol_place b k)).value)) (eq-eqb (sym_at b (symbol_place b k)).shndx 0xfff2 common) placed.align))
+    aligned : (sym_at b (symbol_place b k)).shndx ≡ SHN_COMMON → IsAlignment (sym_at b (symbol_place b k)).value
+    aligned common = power_alignment (sym_at b (symbol_place b k)).value (not_false (is_alignment (sym_at b (symbol_place b k)).value) (second (is_common (sym_at b (symbol_place b k))) (not (is_alignment (sym_at b (symbol_place b k)).value)) (eq-eqb (sym_at b (symbol_place b k)).shndx SHN_COMMON common) placed.align))
 
 -- symbol 0
 null_is_fit : (b : List ℕ) (count : ℕ) → IsFitSymbol b count no_symbol
@@ -136,7 +138,7 @@ all_fit b count ec some ranges form e = go (symbol_count b == 0)
 
 -- a LOCAL symbol but number 0 is neither undefined nor common
 others : (b : List ℕ) (k : ℕ) (d : Symbol) → symbols_flaw b ≡ None → 1 ≤ k → k < length (symbols_in b) → (get_or (symbols_in b) k d).binding ≡ 0
-    → ((get_or (symbols_in b) k d).section ≢ 0) × ((get_or (symbols_in b) k d).section ≢ 0xfff2)
+    → ((get_or (symbols_in b) k d).section ≢ 0) × ((get_or (symbols_in b) k d).section ≢ SHN_COMMON)
 unfolding symbol_in
 others b k d e low high =
     let short : k < symbol_count b = rw symbols-length at high in
@@ -144,7 +146,7 @@ others b k d e low high =
     rw (symbol-at b k d low short) (λ bound.
     let none = second (is_local (sym_at b (symbol_place b k))) (is_undefined (sym_at b (symbol_place b k)) || is_common (sym_at b (symbol_place b k))) (eq-eqb (binding (sym_at b (symbol_place b k))) 0 bound) placed.here in (
       eqb-false (sym_at b (symbol_place b k)).shndx 0 (left (is_undefined (sym_at b (symbol_place b k))) (is_common (sym_at b (symbol_place b k))) none),
-      eqb-false (sym_at b (symbol_place b k)).shndx 0xfff2 (right (is_undefined (sym_at b (symbol_place b k))) (is_common (sym_at b (symbol_place b k))) none),
+      eqb-false (sym_at b (symbol_place b k)).shndx SHN_COMMON (right (is_undefined (sym_at b (symbol_place b k))) (is_common (sym_at b (symbol_place b k))) none),
     ))
   where
     left : (x z : Bool) → (x || z) ≡ false → x ≡ false

@@ -7,6 +7,7 @@ use Rattle.std.proofs.Math.Nat.{pow-succ'}
 use Rattle.std.proofs.Math.Pow.{pow_mono}
 use Rattle.kl_model.specs.Fit.{IsAlignment}
 use Rattle.kl_rel.specs.Sections.{is_alignment}
+use Rattle.kl_base.specs.declared.limits.TheConstants.{ALIGN_LIMIT, ALIGN_POWER_LIMIT}
 
 -- the bits of a number are those of its half and its last one
 halves : (n r : ℕ) → n % 2 ≡ r → count_ones n ≡ count_ones (n / 2) + count_ones r
@@ -41,7 +42,7 @@ power_of (suc m) n le e = go (n % 2) refl (omega arith) (power_of m (n / 2) (ome
         (zero, omega (arith, none, er))
     go (suc (suc r)) er lt rest = absurd (omega arith)
 
-small : (k : ℕ) → 2 ^ k ≤ 2 ^ 21 → k ≤ 21
+small : (k : ℕ) → 2 ^ k ≤ ALIGN_LIMIT → k ≤ ALIGN_POWER_LIMIT
 small k h = go (nat_le k 21) refl
   where
     go : (x : Bool) → nat_le k 21 ≡ x → k ≤ 21
@@ -52,12 +53,12 @@ small k h = go (nat_le k 21) refl
         absurd (omega (arith, h, more))
 
 pub power_alignment : (n : ℕ) → is_alignment n ≡ true → IsAlignment n
-power_alignment n e = go (count_ones n == 1) refl (nat_le n (2 ^ 21)) refl e
+power_alignment n e = go (count_ones n == 1) refl (nat_le n ALIGN_LIMIT) refl e
   where
-    go : (x : Bool) → (count_ones n == 1) ≡ x → (y : Bool) → nat_le n (2 ^ 21) ≡ y → (x && y) ≡ true → IsAlignment n
+    go : (x : Bool) → (count_ones n == 1) ≡ x → (y : Bool) → nat_le n ALIGN_LIMIT ≡ y → (x && y) ≡ true → IsAlignment n
     go false ex y ey e = cc
     go true ex false ey e = cc
     go true ex true ey e =
         let power = power_of n n (omega arith) (eqb-true (count_ones n) 1 ex) in
-        let below = leb-true n (2 ^ 21) ey in
+        let below = leb-true n ALIGN_LIMIT ey in
         inr (power.0, small power.0 (rw power.1 at below), power.1)

@@ -8,6 +8,7 @@ use Rattle.kl_rel.specs.SymbolTables.{symbol_tables, table_number, symbol_table,
 use Rattle.kl_rel.specs.declared.fault.ReadFault.{ReadFault}
 use Rattle.kl_rel.specs.declared.fault.ReadKind.TheVariants.{SymbolTable}
 use Rattle.kl_rel.proofs.Places.{section_of_type, section_where, none_in, not_stands, not_false}
+use Rattle.kl_elf.specs.declared.records.TheConstants.Sym as sym
 
 -- the first that passes a test passes it
 first_passes_it : (p : ℕ → Bool) (xs : List ℕ) (n : ℕ) → slice_get (filter p xs) 0 ≡ Some n → p n ≡ true
@@ -39,11 +40,11 @@ unfolding section
 section_zero b = refl
 
 -- the symbols lie in the file
-pub table_lies : (b : List ℕ) → ranges_flaw b ≡ None → (symbol_table b).offset + 24 * symbol_count b ≤ length b
+pub table_lies : (b : List ℕ) → ranges_flaw b ≡ None → (symbol_table b).offset + sym.SIZE * symbol_count b ≤ length b
 unfolding symbol_table
 table_lies b e = go (table_number b == 0) refl
   where
-    go : (x : Bool) → (table_number b == 0) ≡ x → (section b (table_number b)).offset + 24 * ((section b (table_number b)).size / 24) ≤ length b
+    go : (x : Bool) → (table_number b == 0) ≡ x → (section b (table_number b)).offset + sym.SIZE * ((section b (table_number b)).size / sym.SIZE) ≤ length b
     go true none =
         let at : table_number b ≡ 0 = eqb-true (table_number b) 0 none in
         rw (at, section_zero b) (omega arith)

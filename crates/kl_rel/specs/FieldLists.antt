@@ -4,7 +4,7 @@ use Rattle.std.specs.List.{list_any, range_with_len, All}
 use Rattle.std.specs.Ordering.{nat_cmp, ordering_then}
 use Rattle.std.specs.declared.cmp.Ordering.{Ordering}
 use Rattle.std.specs.BTreeSet.{BTreeSet, contains}
-use Rattle.kl_model.specs.Reaches.{width}
+use Rattle.kl_model.specs.Relocations.{width}
 use Rattle.kl_model.specs.declared.object.RawField.{RawField}
 use Rattle.kl_rel.specs.Relocations.{is_taken}
 use Rattle.kl_rel.specs.declared.field.FieldList.{FieldList}

@@ -12,17 +12,20 @@ use Rattle.kl_rel.specs.declared.fault.Feature.TheVariants.{Extended}
 use Rattle.kl_rel.specs.declared.fault.ReadFault.{ReadFault}
 use Rattle.kl_rel.specs.declared.fault.ReadKind.TheVariants.{Head, Unsupported, SectionTable, SectionRange}
 use Rattle.kl_rel.specs.declared.table.Table.{Table}
+use Rattle.kl_elf.specs.declared.abi.TheConstants.{SHN_XINDEX, SHT_NOBITS, SHT_NULL, SHT_STRTAB, SHT_SYMTAB}
+use Rattle.kl_elf.specs.declared.records.TheConstants.Ehdr as ehdr
+use Rattle.kl_elf.specs.declared.records.TheConstants.Shdr as shdr
 
 abbrev pub head : List ℕ → Ehdr
 head b = ehdr_at b 0
 
 -- SHT_NULL, all zero
 abbrev pub null_header : Shdr
-null_header = record { name = 0; kind = 0; flags = 0; addr = 0; offset = 0; size = 0; link = 0; info = 0; addralign = 0; entsize = 0 }
+null_header = record { name = 0; kind = SHT_NULL; flags = 0; addr = 0; offset = 0; size = 0; link = 0; info = 0; addralign = 0; entsize = 0 }
 
--- the place of section header n; each has 64 bytes
+-- the place of section header n
 abbrev pub header_place : List ℕ → ℕ → ℕ
-header_place b n = (head b).shoff + 64 * n
+header_place b n = (head b).shoff + shdr.SIZE * n
 
 -- the header of section n; number 0 is of type SHT_NULL and without flags, whatever its header holds, and so is a number that no
 -- section has
@@ -33,12 +36,11 @@ section b n = cond ((n == 0) || nat_le (head b).shnum n) null_header (shdr_at b 
 abbrev pub numbers : List ℕ → List ℕ
 numbers b = range_with_len 1 ((head b).shnum - 1)
 
--- SHT_SYMTAB (2), SHT_STRTAB (3)
 abbrev pub is_symbol_table : Shdr → Bool
-is_symbol_table s = s.kind == 2
+is_symbol_table s = s.kind == SHT_SYMTAB
 
 abbrev pub is_string_table : Shdr → Bool
-is_string_table s = s.kind == 3
+is_string_table s = s.kind == SHT_STRTAB
 
 -- a flaw of the file header
 abbrev pub head_flaw : List ℕ → Option ReadFault
@@ -47,11 +49,11 @@ head_flaw b = option_map (λ f. record { kind = Head f.0; at = f.1 }) (head_faul
 -- the section header table lies in the file, and its string table is one
 unfoldable pub table_checks : List ℕ → List (Option ReadFault)
 table_checks b =
-    flaw_if (((head b).shnum == 0) && not ((head b).shoff == 0)) (Unsupported Extended) 60
-    ∷ flaw_if ((head b).shstrndx == 0xffff) (Unsupported Extended) 62
-    ∷ flaw_if ((head b).shnum == 0) SectionTable 60
-    ∷ flaw_if (nat_lt (length b) ((head b).shoff + 64 * (head b).shnum)) SectionTable 40
-    ∷ flaw_if (not (is_string_table (section b (head b).shstrndx))) SectionTable 62 ∷ []
+    flaw_if (((head b).shnum == 0) && not ((head b).shoff == 0)) (Unsupported Extended) ehdr.E_SHNUM
+    ∷ flaw_if ((head b).shstrndx == SHN_XINDEX) (Unsupported Extended) ehdr.E_SHSTRNDX
+    ∷ flaw_if ((head b).shnum == 0) SectionTable ehdr.E_SHNUM
+    ∷ flaw_if (nat_lt (length b) ((head b).shoff + shdr.SIZE * (head b).shnum)) SectionTable ehdr.E_SHOFF
+    ∷ flaw_if (not (is_string_table (section b (head b).shstrndx))) SectionTable ehdr.E_SHSTRNDX ∷ []
 
 -- the table that a reader holds
 pub record IsTable (b : List ℕ) (t : Table) : Type 0 where
@@ -59,15 +61,15 @@ pub record IsTable (b : List ℕ) (t : Table) : Type 0 where
   pub count : t.count ≡ (head b).shnum
   pub names : t.names ≡ (head b).shstrndx
   pub some : 0 < t.count
-  pub lies : t.place + 64 * t.count ≤ length b
+  pub lies : t.place + shdr.SIZE * t.count ≤ length b
 
--- a section has bytes in the file, but one of SHT_NULL (0) or SHT_NOBITS (8)
+-- a section has bytes in the file, but one of SHT_NULL or SHT_NOBITS
 abbrev pub has_bytes : Shdr → Bool
-has_bytes s = not (s.kind == 0) && not (s.kind == 8)
+has_bytes s = not (s.kind == SHT_NULL) && not (s.kind == SHT_NOBITS)
 
 -- the bytes of a section, whose header stands at this place, lie in the file
 unfoldable pub range_flaw : List ℕ → ℕ → Shdr → Option ReadFault
-range_flaw b place s = flaw_if (has_bytes s && nat_lt (length b) (s.offset + s.size)) SectionRange (place + 24)
+range_flaw b place s = flaw_if (has_bytes s && nat_lt (length b) (s.offset + s.size)) SectionRange (place + shdr.SH_OFFSET)
 
 -- of section n
 abbrev pub range_flaw_of : List ℕ → ℕ → Option ReadFault

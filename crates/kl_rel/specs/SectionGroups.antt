@@ -15,10 +15,12 @@ use Rattle.kl_rel.specs.Sections.{sections_in}
 use Rattle.kl_rel.specs.SymbolTables.{symbol_count, symbols_in, is_in_section}
 use Rattle.kl_rel.specs.declared.fault.ReadFault.{ReadFault}
 use Rattle.kl_rel.specs.declared.fault.ReadKind.TheVariants.{GroupForm}
+use Rattle.kl_elf.specs.declared.abi.TheConstants.{GRP_COMDAT, SHT_GROUP, STT_SECTION}
+use Rattle.kl_elf.specs.declared.records.TheConstants.Shdr as shdr
 
--- SHT_GROUP (17): a list of words of 4 bytes, its flags and then its members
+-- SHT_GROUP: a list of words of 4 bytes, its flags and then its members
 abbrev pub is_group : Shdr → Bool
-is_group s = s.kind == 17
+is_group s = s.kind == SHT_GROUP
 
 abbrev pub word_place : Shdr → ℕ → ℕ
 word_place s j = s.offset + 4 * j
@@ -40,13 +42,13 @@ members_of b n = cond (is_group (section b n)) (members b (section b n)) []
 unfoldable pub members_before : List ℕ → ℕ → ℕ → List ℕ
 members_before b n j = flat_map (members_of b) (range_with_len 1 (n - 1)) ++ map (word b (section b n)) (range_with_len 1 (j - 1))
 
--- its size, its symbol table, its signature symbol, and its flags: none, or GRP_COMDAT (1)
+-- its size, its symbol table, its signature symbol, and its flags: none, or GRP_COMDAT
 unfoldable pub group_form_checks : List ℕ → ℕ → Shdr → List (Option ReadFault)
 group_form_checks b place s =
-    flaw_if (nat_lt s.size 4 || not (s.size % 4 == 0)) GroupForm (place + 32)
-    ∷ flaw_if (not (is_symbol_table (section b s.link))) GroupForm (place + 40)
-    ∷ flaw_if ((s.info == 0) || nat_le (symbol_count b) s.info) GroupForm (place + 44)
-    ∷ flaw_if (nat_lt 1 (word b s 0)) GroupForm (word_place s 0) ∷ []
+    flaw_if (nat_lt s.size 4 || not (s.size % 4 == 0)) GroupForm (place + shdr.SH_SIZE)
+    ∷ flaw_if (not (is_symbol_table (section b s.link))) GroupForm (place + shdr.SH_LINK)
+    ∷ flaw_if ((s.info == 0) || nat_le (symbol_count b) s.info) GroupForm (place + shdr.SH_INFO)
+    ∷ flaw_if (nat_lt GRP_COMDAT (word b s 0)) GroupForm (word_place s 0) ∷ []
 
 -- a member of group n: the number of another section that is in no group before
 unfoldable pub member_flaw : ℕ → List ℕ → ℕ → ℕ → ℕ → Option ReadFault
@@ -70,15 +72,15 @@ group_flaw_of b n = cond (is_group (section b n)) (first_of (group_checks b n)) 
 unfoldable pub groups_flaw : List ℕ → Option ReadFault
 groups_flaw b = first_of (map (group_flaw_of b) (numbers b))
 
--- the name of a group's signature: that of a symbol, or of its section where it is one of STT_SECTION (3) that stands in a section
+-- the name of a group's signature: that of a symbol, or of its section where it is one of STT_SECTION that stands in a section
 abbrev pub signature : List Section → Symbol → Range
 signature sections y =
-    cond ((y.kind == 3) && is_in_section y.section) (slice_index_or sections (y.section - 1) no_section).name y.name
+    cond ((y.kind == STT_SECTION) && is_in_section y.section) (slice_index_or sections (y.section - 1) no_section).name y.name
 
 unfoldable pub group_of : List ℕ → ℕ → Group
 group_of b n = record {
   section = n;
-  comdat = word b (section b n) 0 == 1;
+  comdat = word b (section b n) 0 == GRP_COMDAT;
   signature = signature (sections_in b) (slice_index_or (symbols_in b) (section b n).info no_symbol);
   members = members b (section b n);
 }

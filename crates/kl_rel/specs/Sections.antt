@@ -11,23 +11,27 @@ use Rattle.kl_rel.specs.Headers.{head, header_place, section, numbers, string_in
 use Rattle.kl_rel.specs.declared.fault.Feature.TheVariants.{Tls, Compressed, WriteExecute, SectionType, Priority}
 use Rattle.kl_rel.specs.declared.fault.ReadFault.{ReadFault}
 use Rattle.kl_rel.specs.declared.fault.ReadKind.TheVariants.{Unsupported, SectionRange, NameRange, Align}
+use Rattle.kl_elf.specs.declared.abi.TheConstants.{SHF_ALLOC, SHF_COMPRESSED, SHF_EXECINSTR, SHF_TLS, SHF_WRITE, SHT_FINI_ARRAY, SHT_INIT_ARRAY, SHT_NOBITS, SHT_NOTE, SHT_NULL, SHT_PROGBITS, SHT_X86_64_UNWIND}
+use Rattle.kl_elf.specs.declared.records.TheConstants.Shdr as shdr
+use Rattle.kl_base.specs.declared.limits.TheConstants.{ALIGN_LIMIT, SIZE_LIMIT}
 
 -- the empty range at 0
 abbrev pub no_name : Range
 no_name = record { at = 0; len = 0 }
 
--- the name of a section in the string table of section names; one of SHT_NULL (0) has none
+-- the name of a section in the string table of section names; one of SHT_NULL has none
 abbrev pub section_name : List ℕ → Shdr → Shdr → Option Range
-section_name b table s = cond (s.kind == 0) (Some no_name) (string_in b table s.name)
+section_name b table s = cond (s.kind == SHT_NULL) (Some no_name) (string_in b table s.name)
 
 -- SHF_ALLOC: the section is in memory when a program runs
 abbrev pub is_allocated : Shdr → Bool
-is_allocated s = has s.flags 2
+is_allocated s = has s.flags SHF_ALLOC
 
--- the types of an allocated section: SHT_PROGBITS (1), SHT_NOTE (7), SHT_NOBITS (8), SHT_INIT_ARRAY (14), SHT_FINI_ARRAY (15) and
--- SHT_X86_64_UNWIND
+-- the types of an allocated section
 abbrev pub is_linked_type : ℕ → Bool
-is_linked_type kind = (kind == 1) || (kind == 7) || (kind == 8) || (kind == 14) || (kind == 15) || (kind == 0x70000001)
+is_linked_type kind =
+    (kind == SHT_PROGBITS) || (kind == SHT_NOTE) || (kind == SHT_NOBITS) || (kind == SHT_INIT_ARRAY) || (kind == SHT_FINI_ARRAY)
+    || (kind == SHT_X86_64_UNWIND)
 
 -- constructors and destructors that run in an order of their own
 abbrev pub begins : List ℕ → List ℕ → Bool
@@ -39,25 +43,25 @@ has_priority name =
 
 -- the limits of an alignment and of a size
 abbrev pub is_alignment : ℕ → Bool
-is_alignment n = is_power_of_two n && nat_le n (2 ^ 21)
+is_alignment n = is_power_of_two n && nat_le n ALIGN_LIMIT
 
 abbrev pub is_too_large : ℕ → Bool
-is_too_large n = nat_lt (2 ^ 30) n
+is_too_large n = nat_lt SIZE_LIMIT n
 
--- the flags of an allocated section: SHF_TLS (0x400), SHF_COMPRESSED (0x800), and SHF_WRITE (1) with SHF_EXECINSTR (4)
+-- the flags of an allocated section
 unfoldable pub flags_checks : ℕ → Shdr → List (Option ReadFault)
 flags_checks place s =
-    flaw_if (has s.flags 0x400) (Unsupported Tls) (place + 8)
-    ∷ flaw_if (has s.flags 0x800) (Unsupported Compressed) (place + 8)
-    ∷ flaw_if (has s.flags 1 && has s.flags 4) (Unsupported WriteExecute) (place + 8) ∷ []
+    flaw_if (has s.flags SHF_TLS) (Unsupported Tls) (place + shdr.SH_FLAGS)
+    ∷ flaw_if (has s.flags SHF_COMPRESSED) (Unsupported Compressed) (place + shdr.SH_FLAGS)
+    ∷ flaw_if (has s.flags SHF_WRITE && has s.flags SHF_EXECINSTR) (Unsupported WriteExecute) (place + shdr.SH_FLAGS) ∷ []
 
 -- the type, the name, the alignment and the size of an allocated section
 unfoldable pub form_checks : List ℕ → ℕ → Range → Shdr → List (Option ReadFault)
 form_checks b place name s =
-    flaw_if (not (is_linked_type s.kind)) (Unsupported SectionType) (place + 4)
+    flaw_if (not (is_linked_type s.kind)) (Unsupported SectionType) (place + shdr.SH_TYPE)
     ∷ flaw_if (has_priority (text_at b name)) (Unsupported Priority) place
-    ∷ flaw_if (not (s.addralign == 0) && not (is_alignment s.addralign)) Align (place + 48)
-    ∷ flaw_if (is_too_large s.size) SectionRange (place + 32) ∷ []
+    ∷ flaw_if (not (s.addralign == 0) && not (is_alignment s.addralign)) Align (place + shdr.SH_ADDRALIGN)
+    ∷ flaw_if (is_too_large s.size) SectionRange (place + shdr.SH_SIZE) ∷ []
 
 -- a section whose header stands at a place
 unfoldable pub section_checks : List ℕ → Shdr → ℕ → Shdr → List (Option ReadFault)

@@ -15,6 +15,9 @@ use Rattle.kl_rel.specs.declared.fault.Feature.TheVariants.{Extended, Tls, Bindi
 use Rattle.kl_rel.specs.declared.fault.ReadFault.{ReadFault}
 use Rattle.kl_rel.specs.declared.fault.ReadKind.TheVariants.{Unsupported, NameRange, Align, SymbolTable, SymbolSection}
 use Rattle.kl_rel.specs.declared.symbol.SymbolTable.{SymbolTable as Table}
+use Rattle.kl_elf.specs.declared.abi.TheConstants.{SHN_ABS, SHN_COMMON, SHN_LORESERVE, SHN_UNDEF, SHN_XINDEX, STB_LOCAL, STB_WEAK, STT_COMMON, STT_GNU_IFUNC, STT_TLS}
+use Rattle.kl_elf.specs.declared.records.TheConstants.Shdr as shdr
+use Rattle.kl_elf.specs.declared.records.TheConstants.Sym as sym
 
 -- the numbers of the sections of type SHT_SYMTAB, in order
 unfoldable pub symbol_tables : List ℕ → List ℕ
@@ -27,24 +30,24 @@ table_number b = unwrap_or (slice_get (symbol_tables b) 0) 0
 unfoldable pub symbol_table : List ℕ → Shdr
 symbol_table b = section b (table_number b)
 
--- how many symbols there are, of 24 bytes each, and the string table of their names
+-- how many symbols there are, and the string table of their names
 abbrev pub symbol_count : List ℕ → ℕ
-symbol_count b = (symbol_table b).size / 24
+symbol_count b = (symbol_table b).size / sym.SIZE
 
 abbrev pub strings : List ℕ → Shdr
 strings b = section b (symbol_table b).link
 
 -- an object has one symbol table
 abbrev pub second_table_flaw : List ℕ → Option ReadFault
-second_table_flaw b = option_map (λ n. record { kind = SymbolTable; at = header_place b n + 4 }) (slice_get (symbol_tables b) 1)
+second_table_flaw b = option_map (λ n. record { kind = SymbolTable; at = header_place b n + shdr.SH_TYPE }) (slice_get (symbol_tables b) 1)
 
 -- its size, the size of an entry, its string table, and how many of its symbols are LOCAL, from number 0 on
 unfoldable pub table_form_checks : List ℕ → ℕ → Shdr → List (Option ReadFault)
 table_form_checks b place s =
-    flaw_if ((s.size == 0) || not (s.size % 24 == 0)) SymbolTable (place + 32)
-    ∷ flaw_if (not (s.entsize == 24)) SymbolTable (place + 56)
-    ∷ flaw_if (not (is_string_table (section b s.link))) SymbolTable (place + 40)
-    ∷ flaw_if ((s.info == 0) || nat_lt (s.size / 24) s.info) SymbolTable (place + 44) ∷ []
+    flaw_if ((s.size == 0) || not (s.size % sym.SIZE == 0)) SymbolTable (place + shdr.SH_SIZE)
+    ∷ flaw_if (not (s.entsize == sym.SIZE)) SymbolTable (place + shdr.SH_ENTSIZE)
+    ∷ flaw_if (not (is_string_table (section b s.link))) SymbolTable (place + shdr.SH_LINK)
+    ∷ flaw_if ((s.info == 0) || nat_lt (s.size / sym.SIZE) s.info) SymbolTable (place + shdr.SH_INFO) ∷ []
 
 -- there is no second symbol table, and the first has its form
 unfoldable pub symbol_table_checks : List ℕ → List (Option ReadFault)
@@ -54,7 +57,7 @@ symbol_table_checks b =
 
 -- the place of symbol k
 abbrev pub symbol_place : List ℕ → ℕ → ℕ
-symbol_place b k = (symbol_table b).offset + 24 * k
+symbol_place b k = (symbol_table b).offset + sym.SIZE * k
 
 -- the halves of st_info and the visibility in st_other
 abbrev pub binding : Sym → ℕ
@@ -66,27 +69,26 @@ kind y = y.info % 16
 abbrev pub visibility : Sym → ℕ
 visibility y = y.other % 4
 
--- STB_LOCAL (0)
 abbrev pub is_local : Sym → Bool
-is_local y = binding y == 0
+is_local y = binding y == STB_LOCAL
 
--- SHN_UNDEF (0), SHN_ABS (0xfff1), SHN_COMMON (0xfff2); numbers from SHN_LORESERVE (0xff00) on are no section's
+-- numbers from SHN_LORESERVE on are no section's
 abbrev pub is_undefined : Sym → Bool
-is_undefined y = y.shndx == 0
+is_undefined y = y.shndx == SHN_UNDEF
 
 abbrev pub is_common : Sym → Bool
-is_common y = y.shndx == 0xfff2
+is_common y = y.shndx == SHN_COMMON
 
 abbrev pub is_reserved : ℕ → Bool
-is_reserved n = nat_le 0xff00 n
+is_reserved n = nat_le SHN_LORESERVE n
 
 -- the number of a section of a file with so many, or of none, or a reserved one that is known
 abbrev pub has_section : ℕ → Sym → Bool
-has_section count y = cond (is_reserved y.shndx) ((y.shndx == 0xfff1) || is_common y) (nat_lt y.shndx count)
+has_section count y = cond (is_reserved y.shndx) ((y.shndx == SHN_ABS) || is_common y) (nat_lt y.shndx count)
 
 -- the number of a section, of those that a symbol can name
 abbrev pub is_in_section : ℕ → Bool
-is_in_section n = not (n == 0) && not (is_reserved n)
+is_in_section n = not (n == SHN_UNDEF) && not (is_reserved n)
 
 -- a name that doesn't end in the string table, or an empty one of a symbol that isn't LOCAL
 abbrev pub is_empty : Option Range → Bool
@@ -96,26 +98,25 @@ is_empty (Some r) = r.len == 0
 abbrev pub is_unnamed : Option Range → Sym → Bool
 is_unnamed name y = is_none name || (not (is_local y) && is_empty name)
 
--- the name, the order and the type of a symbol: LOCAL ones stand first, STT_TLS (6), STT_GNU_IFUNC (10), and STT_COMMON (5) is the
--- last that is linked
+-- the name, the order and the type of a symbol: LOCAL ones stand first, and STT_COMMON is the last type that is linked
 unfoldable pub symbol_form_checks : Option Range → Bool → ℕ → Sym → List (Option ReadFault)
 symbol_form_checks name first place y =
     flaw_if (is_unnamed name y) NameRange place
-    ∷ flaw_if (cond first (not (is_local y)) (is_local y)) SymbolTable (place + 4)
-    ∷ flaw_if (nat_lt 2 (binding y)) (Unsupported Binding) (place + 4)
-    ∷ flaw_if (kind y == 6) (Unsupported Tls) (place + 4)
-    ∷ flaw_if (kind y == 10) (Unsupported Ifunc) (place + 4)
-    ∷ flaw_if (nat_lt 5 (kind y)) (Unsupported SymbolType) (place + 4) ∷ []
+    ∷ flaw_if (cond first (not (is_local y)) (is_local y)) SymbolTable (place + sym.ST_INFO)
+    ∷ flaw_if (nat_lt STB_WEAK (binding y)) (Unsupported Binding) (place + sym.ST_INFO)
+    ∷ flaw_if (kind y == STT_TLS) (Unsupported Tls) (place + sym.ST_INFO)
+    ∷ flaw_if (kind y == STT_GNU_IFUNC) (Unsupported Ifunc) (place + sym.ST_INFO)
+    ∷ flaw_if (nat_lt STT_COMMON (kind y)) (Unsupported SymbolType) (place + sym.ST_INFO) ∷ []
 
 -- the section, the value and the size of a symbol; a common symbol's value is its alignment
 unfoldable pub symbol_place_checks : ℕ → ℕ → Sym → List (Option ReadFault)
 symbol_place_checks count place y =
-    flaw_if (y.shndx == 0xffff) (Unsupported Extended) (place + 6)
-    ∷ flaw_if (not (has_section count y)) SymbolSection (place + 6)
-    ∷ flaw_if (is_local y && (is_undefined y || is_common y)) SymbolSection (place + 6)
-    ∷ flaw_if (is_common y && not (is_alignment y.value)) Align (place + 8)
-    ∷ flaw_if (is_in_section y.shndx && is_too_large y.value) SymbolSection (place + 8)
-    ∷ flaw_if (is_common y && is_too_large y.size) SymbolSection (place + 16) ∷ []
+    flaw_if (y.shndx == SHN_XINDEX) (Unsupported Extended) (place + sym.ST_SHNDX)
+    ∷ flaw_if (not (has_section count y)) SymbolSection (place + sym.ST_SHNDX)
+    ∷ flaw_if (is_local y && (is_undefined y || is_common y)) SymbolSection (place + sym.ST_SHNDX)
+    ∷ flaw_if (is_common y && not (is_alignment y.value)) Align (place + sym.ST_VALUE)
+    ∷ flaw_if (is_in_section y.shndx && is_too_large y.value) SymbolSection (place + sym.ST_VALUE)
+    ∷ flaw_if (is_common y && is_too_large y.size) SymbolSection (place + sym.ST_SIZE) ∷ []
 
 -- as it is listed
 abbrev pub listed_symbol : Option Range → Sym → Symbol
@@ -162,4 +163,4 @@ pub record IsSymbolTable (b : List ℕ) (t : Table) : Type 0 where
   pub count : t.count ≡ symbol_count b
   pub locals : t.locals ≡ (symbol_table b).info
   pub strings : t.strings ≡ (symbol_table b).link
-  pub lies : t.place + 24 * t.count ≤ length b
+  pub lies : t.place + sym.SIZE * t.count ≤ length b

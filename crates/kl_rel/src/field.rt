@@ -2,12 +2,12 @@
 ghost use Rattle.std.specs.Prelude.{◌≡◌, ◌+◌, ◌<◌, ◌^◌, [], ◌∷◌, ◌++◌, ℕ, ◌||◌, not, length, IfOk, OnOk};
 ghost use Rattle.std.specs.Bool.{OnTrue};
 ghost use Rattle.std.specs.List.{All};
-ghost use Rattle.kl_model.specs.Reaches.{width};
+ghost use Rattle.kl_model.specs.Relocations.{width};
 ghost use Rattle.kl_rel.specs.Relocations.{is_byte_of, is_taken, shares_byte};
 ghost use Rattle.kl_rel.specs.FieldLists.{IsApart, Keeps, has_byte, lacks};
 
 use kl_base::{Listed, NoMemory};
-use kl_model::{RawField, RawFields};
+use kl_model::{RawField, RawFields, width};
 use std::alloc::Global;
 use std::collections::BTreeSet;
 
@@ -114,18 +114,4 @@ fn bytes_of(alloc: Global, fields: &[RawField]) -> Result<BTreeSet<(u32, u64)>, 
         take_bytes(&mut taken, field)?;
     }
     Ok(taken)
-}
-
-/// How many bytes a field of a relocation type has (psABI, "Relocation Types"): 0 for one without a field, and for one that
-/// isn't linked.
-pub(crate) fn width(kind: u32) -> u64
-    ensures { result ≡ width kind }
-{
-    match kind {
-        1 | 24 => 8,
-        2 | 4 | 9 | 10 | 11 | 41 | 42 => 4,
-        12 | 13 => 2,
-        14 | 15 => 1,
-        _ => 0,
-    }
 }

@@ -7,22 +7,18 @@ ghost use Rattle.kl_rel.specs.Sections.{sections_in};
 ghost use Rattle.kl_rel.specs.SymbolTables.{symbols_in, symbols_flaw, symbol_count, is_in_section};
 ghost use Rattle.kl_rel.specs.SectionGroups.{groups_flaw, groups_in, group_of, is_group, group_checks, group_form_checks, members_flaw, members, members_before, signature};
 ghost use Rattle.kl_rel.specs.Grouped.{IsGrouped, is_free};
+ghost use Rattle.kl_base.specs.declared.limits.TheConstants.{INPUT_LIMIT};
 
 use crate::fault::fault_at;
 use crate::symbol::is_in_section;
-use crate::table::{SHT_SYMTAB, Table};
+use crate::table::Table;
 use crate::{ReadError, ReadFault, ReadKind};
 use kl_base::{Listed, Range};
 use kl_elf::Shdr;
+use kl_elf::abi::{GRP_COMDAT, SHT_GROUP, SHT_SYMTAB, STT_SECTION};
 use kl_le::get;
 use kl_model::{Group, Groups, Members, Section, Symbol};
 use std::alloc::Global;
-
-const SHT_GROUP: u32 = 17;
-
-const STT_SECTION: u8 = 3;
-
-const GRP_COMDAT: u64 = 1;
 
 /// Reads the section groups of an object, whose sections and symbols these are.
 ///
@@ -36,7 +32,7 @@ pub(crate) fn read_groups(
     sections: &[Section],
     symbols: &[Symbol],
 ) -> Result<Groups, ReadError>
-    requires long { length bytes.now ≤ 67108864 }
+    requires long { length bytes.now ≤ INPUT_LIMIT }
     requires table { IsTable bytes.now table.now }
     requires ranges { ranges_flaw bytes.now ≡ None }
     requires sections { sections.now ≡ sections_in bytes.now }
@@ -59,7 +55,7 @@ fn read_each(
     symbols: &[Symbol],
     grouped: &mut [bool],
 ) -> Result<Groups, ReadError>
-    requires long { length bytes.now ≤ 67108864 }
+    requires long { length bytes.now ≤ INPUT_LIMIT }
     requires table { IsTable bytes.now table.now }
     requires ranges { ranges_flaw bytes.now ≡ None }
     requires sections { sections.now ≡ sections_in bytes.now }
@@ -90,7 +86,7 @@ fn read_group(
     number: u32,
     grouped: &mut [bool],
 ) -> Result<Group, ReadError>
-    requires long { length bytes.now ≤ 67108864 }
+    requires long { length bytes.now ≤ INPUT_LIMIT }
     requires table { IsTable bytes.now table.now }
     requires ranges { ranges_flaw bytes.now ≡ None }
     requires sections { sections.now ≡ sections_in bytes.now }
@@ -110,7 +106,7 @@ fn read_group(
     let members = read_members(alloc, bytes, number, &header, grouped)?;
     Ok(Group {
         section: number,
-        comdat: get::<4>(bytes, header.offset as usize) == GRP_COMDAT,
+        comdat: get::<4>(bytes, header.offset as usize) == u64::from(GRP_COMDAT),
         signature: signature(sections, &symbols[header.info as usize]),
         members,
     })
@@ -128,20 +124,20 @@ fn check_form(
     requires table { IsTable bytes.now table.now }
     requires symbols { symbols ≡ symbol_count bytes.now }
     requires place { place < 2 ^ 63 }
-    requires long { length bytes.now ≤ 67108864 }
+    requires long { length bytes.now ≤ INPUT_LIMIT }
     requires lies { header.now.offset + header.now.size ≤ length bytes.now }
     ensures { result_err result ≡ first_of (group_form_checks bytes.now place header.now) }
 {
     if header.size < 4 || header.size % 4 != 0 {
-        return Err(fault_at(ReadKind::GroupForm, place + 32));
+        return Err(fault_at(ReadKind::GroupForm, place + Shdr::SH_SIZE));
     }
     if table.section(bytes, header.link).kind != SHT_SYMTAB {
-        return Err(fault_at(ReadKind::GroupForm, place + 40));
+        return Err(fault_at(ReadKind::GroupForm, place + Shdr::SH_LINK));
     }
     if header.info == 0 || u64::from(header.info) >= symbols {
-        return Err(fault_at(ReadKind::GroupForm, place + 44));
+        return Err(fault_at(ReadKind::GroupForm, place + Shdr::SH_INFO));
     }
-    if get::<4>(bytes, header.offset as usize) > GRP_COMDAT {
+    if get::<4>(bytes, header.offset as usize) > u64::from(GRP_COMDAT) {
         return Err(fault_at(ReadKind::GroupForm, header.offset));
     }
     Ok(())
@@ -155,7 +151,7 @@ fn read_members(
     header: &Shdr,
     grouped: &mut [bool],
 ) -> Result<Members, ReadError>
-    requires long { length bytes.now ≤ 67108864 }
+    requires long { length bytes.now ≤ INPUT_LIMIT }
     requires header { header.now ≡ section bytes.now number }
     requires size { 4 ≤ header.now.size }
     requires lies { header.now.offset + header.now.size ≤ length bytes.now }

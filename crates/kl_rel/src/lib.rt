@@ -6,6 +6,7 @@ ghost use Rattle.kl_model.specs.Fit.{IsFit};
 ghost use Rattle.kl_model.specs.declared.object.Input.{Input};
 ghost use Rattle.kl_rel.specs.Flaws.{IsAnswer};
 ghost use Rattle.kl_rel.specs.Objects.{flaw, object};
+ghost use Rattle.kl_base.specs.declared.limits.TheConstants.{INPUT_LIMIT};
 
 mod fault;
 mod field;
@@ -31,7 +32,7 @@ use table::{check_ranges, read_table};
 ///
 /// The first flaw of the bytes, with its place in the file, or want of memory.
 pub fn read_object(alloc: Global, bytes: &[u8]) -> Result<Object, ReadError>
-    requires { length bytes.now ≤ 67108864 }
+    requires { length bytes.now ≤ INPUT_LIMIT }
     ensures object { IfOk result (λ o. o ≡ object bytes.now) }
     ensures sound { OnOk result (flaw bytes.now ≡ None) }
     ensures flaw { IfErr result (IsAnswer (flaw bytes.now)) }

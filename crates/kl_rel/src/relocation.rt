@@ -2,7 +2,7 @@
 ghost use Rattle.std.specs.Prelude.{◌≡◌, ◌+◌, ◌*◌, ◌/◌, ◌≤◌, ◌<◌, ◌^◌, [], ◌∷◌, ◌++◌, ◌&&◌, nat_le, length, IfOk, OnOk, IfErr, None};
 ghost use Rattle.std.specs.Result.{result_err};
 ghost use Rattle.kl_elf.specs.Records.{rela_at};
-ghost use Rattle.kl_model.specs.Reaches.{width};
+ghost use Rattle.kl_model.specs.Relocations.{width};
 ghost use Rattle.kl_rel.specs.Flaws.{IsAnswer, first_of};
 ghost use Rattle.kl_rel.specs.Headers.{IsTable, ranges_flaw, section, header_place};
 ghost use Rattle.kl_rel.specs.Sections.{is_allocated, sections_flaw};
@@ -10,20 +10,17 @@ ghost use Rattle.kl_rel.specs.SymbolTables.{IsSymbolTable, symbol_count};
 ghost use Rattle.kl_rel.specs.FieldLists.{IsApart};
 ghost use Rattle.kl_rel.specs.EntryLists.{AreEntries};
 ghost use Rattle.kl_rel.specs.Relocations.{relocations_flaw, fields_in, rela_checks, rela_flaw_of, is_rela, is_read, fields_of, fields_before, entries_flaw, entry_checks, listed_field, shares_byte};
+ghost use Rattle.kl_base.specs.declared.limits.TheConstants.{INPUT_LIMIT, SIZE_LIMIT};
 
 use crate::fault::fault_at;
-use crate::field::{FieldList, width};
-use crate::section::SHF_ALLOC;
+use crate::field::FieldList;
 use crate::symbol::SymbolTable;
-use crate::table::{SHT_NOBITS, SHT_SYMTAB, Table};
+use crate::table::Table;
 use crate::{ReadError, ReadFault, ReadKind};
+use kl_elf::abi::{SHF_ALLOC, SHT_NOBITS, SHT_REL, SHT_RELA, SHT_SYMTAB};
 use kl_elf::{Rela, Shdr};
-use kl_model::{RawField, RawFields};
+use kl_model::{RawField, RawFields, width};
 use std::alloc::Global;
-
-const SHT_RELA: u32 = 4;
-
-const SHT_REL: u32 = 9;
 
 /// Reads the entries of the relocation sections of allocated sections.
 ///
@@ -36,7 +33,7 @@ pub(crate) fn read_relocations(
     table: &Table,
     symbol_table: &SymbolTable,
 ) -> Result<RawFields, ReadError>
-    requires long { length bytes.now ≤ 67108864 }
+    requires long { length bytes.now ≤ INPUT_LIMIT }
     requires table { IsTable bytes.now table.now }
     requires symbol_table { IsSymbolTable bytes.now symbol_table.now }
     requires ranges { ranges_flaw bytes.now ≡ None }
@@ -72,25 +69,25 @@ fn check_form(bytes: &[u8], table: &Table, place: u64, header: &Shdr) -> Result<
 {
     let target = table.section(bytes, header.info);
     if (header.kind == SHT_RELA || header.kind == SHT_REL) && header.info >= table.count {
-        return Err(fault_at(ReadKind::RelaLink, place + 44));
+        return Err(fault_at(ReadKind::RelaLink, place + Shdr::SH_INFO));
     }
     if header.kind == SHT_REL && is_allocated(&target) {
-        return Err(fault_at(ReadKind::RelaKindForm, place + 4));
+        return Err(fault_at(ReadKind::RelaKindForm, place + Shdr::SH_TYPE));
     }
     if !is_read(header, &target) {
         return Ok(());
     }
     if target.kind == SHT_NOBITS {
-        return Err(fault_at(ReadKind::RelaLink, place + 44));
+        return Err(fault_at(ReadKind::RelaLink, place + Shdr::SH_INFO));
     }
     if table.section(bytes, header.link).kind != SHT_SYMTAB {
-        return Err(fault_at(ReadKind::RelaLink, place + 40));
+        return Err(fault_at(ReadKind::RelaLink, place + Shdr::SH_LINK));
     }
     if header.entsize != Rela::SIZE as u64 {
-        return Err(fault_at(ReadKind::RelaLink, place + 56));
+        return Err(fault_at(ReadKind::RelaLink, place + Shdr::SH_ENTSIZE));
     }
     if header.size % Rela::SIZE as u64 != 0 {
-        return Err(fault_at(ReadKind::RelaLink, place + 32));
+        return Err(fault_at(ReadKind::RelaLink, place + Shdr::SH_SIZE));
     }
     Ok(())
 }
@@ -123,14 +120,14 @@ struct Entries {
 impl Entries {
     /// Reads the entries, and adds their fields to those of earlier sections.
     fn read(&self, alloc: Global, bytes: &[u8], fields: &mut FieldList) -> Result<(), ReadError>
-        requires long { length bytes.now ≤ 67108864 }
+        requires long { length bytes.now ≤ INPUT_LIMIT }
         requires entries { AreEntries bytes.now self.now }
         requires lies { self.now.header.offset + self.now.header.size ≤ length bytes.now }
-        requires size { self.now.size ≤ 2 ^ 30 }
+        requires size { self.now.size ≤ SIZE_LIMIT }
         requires apart { IsApart fields.old }
         requires section { self.now.header.info < length fields.old.ends.items }
         requires before { fields.old.fields ≡ fields_before bytes.now self.now.number 0 }
-        ensures fields { OnOk result (fields.new.fields ≡ fields_before bytes.now self.now.number (self.now.header.size / 24)) }
+        ensures fields { OnOk result (fields.new.fields ≡ fields_before bytes.now self.now.number (self.now.header.size / Rela.SIZE)) }
         ensures apart { OnOk result (IsApart fields.new) }
         ensures count { length fields.new.ends.items ≡ length fields.old.ends.items }
         ensures sound { OnOk result (entries_flaw bytes.now self.now.number ≡ None) }
@@ -146,9 +143,9 @@ impl Entries {
 
     /// The field of an entry.
     fn field(&self, bytes: &[u8], index: u64) -> RawField
-        requires long { length bytes.now ≤ 67108864 }
-        requires place { self.now.header.offset + 24 * index + 24 ≤ length bytes.now }
-        ensures { result ≡ listed_field self.now.number index self.now.header.info (rela_at bytes.now (self.now.header.offset + 24 * index)) }
+        requires long { length bytes.now ≤ INPUT_LIMIT }
+        requires place { self.now.header.offset + Rela.SIZE * index + Rela.SIZE ≤ length bytes.now }
+        ensures { result ≡ listed_field self.now.number index self.now.header.info (rela_at bytes.now (self.now.header.offset + Rela.SIZE * index)) }
     {
         let place = self.header.offset + Rela::SIZE as u64 * index;
         let entry = Rela::read(bytes, place as usize);
@@ -173,7 +170,7 @@ impl Entries {
         fields: &mut FieldList,
     ) -> Result<(), ReadError>
         requires place { place < 2 ^ 63 }
-        requires size { self.now.size ≤ 2 ^ 30 }
+        requires size { self.now.size ≤ SIZE_LIMIT }
         requires apart { IsApart fields.old }
         requires section { field.now.section < length fields.old.ends.items }
         ensures fields { OnOk result (fields.new.fields ≡ fields.old.fields ++ field.now ∷ []) }
@@ -183,7 +180,7 @@ impl Entries {
         ensures flaw { IfErr result (IsAnswer (first_of (entry_checks self.now.symbols self.now.size fields.old.fields place field.now))) }
     {
         if u64::from(field.symbol) >= self.symbols {
-            return Err(fault_at(ReadKind::RelaLink, place + 8).into());
+            return Err(fault_at(ReadKind::RelaLink, place + Rela::R_INFO).into());
         }
         if !fits(field, self.size) {
             return Err(fault_at(ReadKind::RelaPlace, place).into());

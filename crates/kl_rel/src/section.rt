@@ -5,41 +5,20 @@ ghost use Rattle.kl_rel.specs.Flaws.{IsAnswer, first_of};
 ghost use Rattle.kl_rel.specs.StringTables.{IsIndexed};
 ghost use Rattle.kl_rel.specs.Headers.{IsTable, table_checks, ranges_flaw};
 ghost use Rattle.kl_rel.specs.Sections.{section_name, is_linked_type, has_priority, is_alignment, is_too_large, flags_checks, form_checks, section_checks, listed_section, sections_flaw, sections_in};
+ghost use Rattle.kl_base.specs.declared.limits.TheConstants.{INPUT_LIMIT};
 
 use crate::fault::fault_at;
 use crate::string::{StringTable, text_at};
-use crate::table::{SHT_NOBITS, SHT_NULL, Table};
+use crate::table::Table;
 use crate::{Feature, ReadError, ReadFault, ReadKind};
-use kl_base::{Listed, Range};
+use kl_base::{ALIGN_LIMIT, Listed, Range, SIZE_LIMIT};
 use kl_elf::Shdr;
+use kl_elf::abi::{
+    SHF_ALLOC, SHF_COMPRESSED, SHF_EXECINSTR, SHF_TLS, SHF_WRITE, SHT_FINI_ARRAY, SHT_INIT_ARRAY,
+    SHT_NOBITS, SHT_NOTE, SHT_NULL, SHT_PROGBITS, SHT_X86_64_UNWIND,
+};
 use kl_model::{Section, Sections};
 use std::alloc::Global;
-
-const SHT_PROGBITS: u32 = 1;
-
-const SHT_NOTE: u32 = 7;
-
-const SHT_INIT_ARRAY: u32 = 14;
-
-const SHT_FINI_ARRAY: u32 = 15;
-
-const SHT_X86_64_UNWIND: u32 = 0x7000_0001;
-
-const SHF_WRITE: u64 = 1;
-
-pub(crate) const SHF_ALLOC: u64 = 2;
-
-const SHF_EXECINSTR: u64 = 4;
-
-const SHF_TLS: u64 = 0x400;
-
-const SHF_COMPRESSED: u64 = 0x800;
-
-/// The greatest alignment, in bytes.
-const ALIGN_LIMIT: u64 = 1 << 21;
-
-/// The greatest size of a section or a common symbol, and the greatest value of a symbol in a section.
-const SIZE_LIMIT: u64 = 1 << 30;
 
 /// The name of a section without one.
 pub(crate) const NO_NAME: Range = Range { at: 0, len: 0 };
@@ -54,7 +33,7 @@ pub(crate) fn read_sections(
     bytes: &[u8],
     table: &Table,
 ) -> Result<Sections, ReadError>
-    requires long { length bytes.now ≤ 67108864 }
+    requires long { length bytes.now ≤ INPUT_LIMIT }
     requires table { IsTable bytes.now table.now }
     requires form { first_of (table_checks bytes.now) ≡ None }
     requires ranges { ranges_flaw bytes.now ≡ None }
@@ -80,7 +59,7 @@ fn read_section(
     place: u64,
     header: &Shdr,
 ) -> Result<Section, ReadFault>
-    requires long { length bytes.now ≤ 67108864 }
+    requires long { length bytes.now ≤ INPUT_LIMIT }
     requires names { IsIndexed bytes.now names.now }
     requires place { place < 2 ^ 63 }
     ensures section { IfOk result (λ s. s ≡ listed_section bytes.now names.now.header header.now) }
@@ -105,7 +84,7 @@ fn read_section(
 
 /// The name of a section; `None` where no zero byte ends it.
 fn section_name(bytes: &[u8], names: &StringTable, header: &Shdr) -> Option<Range>
-    requires long { length bytes.now ≤ 67108864 }
+    requires long { length bytes.now ≤ INPUT_LIMIT }
     requires names { IsIndexed bytes.now names.now }
     ensures { result ≡ section_name bytes.now names.now.header header.now }
 {
@@ -123,13 +102,19 @@ fn check_flags(place: u64, header: &Shdr) -> Result<(), ReadFault>
     ensures { result_err result ≡ first_of (flags_checks place header.now) }
 {
     if header.flags & SHF_TLS != 0 {
-        return Err(fault_at(ReadKind::Unsupported(Feature::Tls), place + 8));
+        return Err(fault_at(ReadKind::Unsupported(Feature::Tls), place + Shdr::SH_FLAGS));
     }
     if header.flags & SHF_COMPRESSED != 0 {
-        return Err(fault_at(ReadKind::Unsupported(Feature::Compressed), place + 8));
+        return Err(fault_at(
+            ReadKind::Unsupported(Feature::Compressed),
+            place + Shdr::SH_FLAGS,
+        ));
     }
     if header.flags & SHF_WRITE != 0 && header.flags & SHF_EXECINSTR != 0 {
-        return Err(fault_at(ReadKind::Unsupported(Feature::WriteExecute), place + 8));
+        return Err(fault_at(
+            ReadKind::Unsupported(Feature::WriteExecute),
+            place + Shdr::SH_FLAGS,
+        ));
     }
     Ok(())
 }
@@ -142,16 +127,19 @@ fn check_form(bytes: &[u8], place: u64, name: &Range, header: &Shdr) -> Result<(
     ensures { result_err result ≡ first_of (form_checks bytes.now place name.now header.now) }
 {
     if !is_linked_type(header.kind) {
-        return Err(fault_at(ReadKind::Unsupported(Feature::SectionType), place + 4));
+        return Err(fault_at(
+            ReadKind::Unsupported(Feature::SectionType),
+            place + Shdr::SH_TYPE,
+        ));
     }
     if has_priority(text_at(bytes, name)) {
         return Err(fault_at(ReadKind::Unsupported(Feature::Priority), place));
     }
     if header.addralign != 0 && !is_alignment(header.addralign) {
-        return Err(fault_at(ReadKind::Align, place + 48));
+        return Err(fault_at(ReadKind::Align, place + Shdr::SH_ADDRALIGN));
     }
     if is_too_large(header.size) {
-        return Err(fault_at(ReadKind::SectionRange, place + 32));
+        return Err(fault_at(ReadKind::SectionRange, place + Shdr::SH_SIZE));
     }
     Ok(())
 }
@@ -178,7 +166,7 @@ fn has_priority(name: &[u8]) -> bool
         || name.starts_with(b".dtors.")
 }
 
-/// Whether this is a power of two up to 2^21.
+/// Whether this is a power of two up to the limit.
 pub(crate) fn is_alignment(align: u64) -> bool
     ensures { result ≡ is_alignment align }
 {

@@ -4,6 +4,7 @@ ghost use Rattle.std.specs.List.{position_or_len};
 ghost use Rattle.kl_model.specs.Texts.{text_at};
 ghost use Rattle.kl_rel.specs.Headers.{string_in};
 ghost use Rattle.kl_rel.specs.StringTables.{table_bytes, text_len, AreLens, IsIndexed};
+ghost use Rattle.kl_base.specs.declared.limits.TheConstants.{INPUT_LIMIT};
 
 use kl_base::{NoMemory, Range};
 use kl_elf::Shdr;
@@ -25,7 +26,7 @@ pub(crate) struct StringTable {
 impl StringTable {
     /// The string table that has this header.
     pub(crate) fn new(alloc: Global, bytes: &[u8], header: &Shdr) -> Result<Self, NoMemory>
-        requires long { length bytes.now ≤ 67108864 }
+        requires long { length bytes.now ≤ INPUT_LIMIT }
         requires lies { header.now.offset + header.now.size ≤ length bytes.now }
         ensures header { IfOk result (λ t. t.header ≡ header.now) }
         ensures index { IfOk result (λ t. IsIndexed bytes.now t) }
@@ -38,7 +39,7 @@ impl StringTable {
 
     /// The place in the file of the text that begins at a place of the table; `None` where no zero byte of the table ends it.
     pub(crate) fn string(&self, bytes: &[u8], place: u32) -> Option<Range>
-        requires long { length bytes.now ≤ 67108864 }
+        requires long { length bytes.now ≤ INPUT_LIMIT }
         requires index { IsIndexed bytes.now self.now }
         ensures { result ≡ string_in bytes.now self.now.header place }
     {
@@ -58,7 +59,7 @@ impl StringTable {
 
     /// The length of the text that begins at a place of the table.
     fn len_at(&self, table: &[u8], place: usize) -> usize
-        requires long { length table.now ≤ 67108864 }
+        requires long { length table.now ≤ INPUT_LIMIT }
         requires lens { AreLens table.now self.now.lens.items }
         requires place { place < length table.now }
         ensures { result ≡ text_len table.now place }
@@ -82,7 +83,7 @@ fn table_bytes<'a>(bytes: &'a [u8], header: &Shdr) -> &'a [u8]
 
 /// By block, from the last to the first, the length of the text that begins with it.
 fn text_lens(alloc: Global, table: &[u8]) -> Result<Vec<usize>, NoMemory>
-    requires { length table.now ≤ 67108864 }
+    requires { length table.now ≤ INPUT_LIMIT }
     ensures { IfOk result (λ v. AreLens table.now v.items) }
 {
     let blocks = (table.len() + BLOCK - 1) / BLOCK;
@@ -97,7 +98,7 @@ fn text_lens(alloc: Global, table: &[u8]) -> Result<Vec<usize>, NoMemory>
 
 /// The length of the text that begins at a place, where that of the text at the next block is `rest`.
 fn text_len(table: &[u8], place: usize, rest: usize) -> usize
-    requires long { length table.now ≤ 67108864 }
+    requires long { length table.now ≤ INPUT_LIMIT }
     requires place { place < length table.now }
     requires rest { rest ≡ text_len table.now (64 * (place / 64 + 1)) }
     ensures { result ≡ text_len table.now place }

@@ -5,44 +5,29 @@ ghost use Rattle.kl_rel.specs.Flaws.{IsAnswer, first_of};
 ghost use Rattle.kl_rel.specs.StringTables.{IsIndexed};
 ghost use Rattle.kl_rel.specs.Headers.{IsTable, ranges_flaw, head};
 ghost use Rattle.kl_rel.specs.SymbolTables.{IsSymbolTable, symbol_tables, second_table_flaw, table_form_checks, symbol_table_checks, symbol_form_checks, symbol_place_checks, symbol_flaw_of, symbol_of, symbols_flaw, symbols_in, symbol_in, symbol_checks, is_local, is_unnamed, has_section, is_in_section, is_common, strings};
+ghost use Rattle.kl_base.specs.declared.limits.TheConstants.{INPUT_LIMIT};
 
 use crate::fault::fault_at;
 use crate::section::{NO_NAME, is_alignment, is_too_large};
 use crate::string::StringTable;
-use crate::table::{SHT_STRTAB, SHT_SYMTAB, Table};
+use crate::table::Table;
 use crate::{Feature, ReadError, ReadFault, ReadKind};
 use kl_base::{Listed, Range};
+use kl_elf::abi::{
+    SHN_ABS, SHN_COMMON, SHN_LORESERVE, SHN_UNDEF, SHN_XINDEX, SHT_STRTAB, SHT_SYMTAB, STB_LOCAL,
+    STB_WEAK, STT_COMMON, STT_GNU_IFUNC, STT_NOTYPE, STT_TLS, STV_DEFAULT,
+};
 use kl_elf::{Shdr, Sym};
 use kl_model::{Symbol, Symbols};
 use std::alloc::Global;
 
-const SHN_UNDEF: u16 = 0;
-
-const SHN_LORESERVE: u16 = 0xff00;
-
-const SHN_ABS: u16 = 0xfff1;
-
-const SHN_COMMON: u16 = 0xfff2;
-
-const SHN_XINDEX: u16 = 0xffff;
-
-const STB_LOCAL: u8 = 0;
-
-const STB_WEAK: u8 = 2;
-
-const STT_COMMON: u8 = 5;
-
-const STT_TLS: u8 = 6;
-
-const STT_GNU_IFUNC: u8 = 10;
-
 /// Symbol 0.
 const NO_SYMBOL: Symbol = Symbol {
     name: NO_NAME,
-    binding: 0,
-    kind: 0,
-    visibility: 0,
-    section: 0,
+    binding: STB_LOCAL,
+    kind: STT_NOTYPE,
+    visibility: STV_DEFAULT,
+    section: SHN_UNDEF as u32,
     value: 0,
     size: 0,
 };
@@ -66,7 +51,7 @@ pub(crate) struct SymbolTable {
 ///
 /// Its first flaw.
 pub(crate) fn read_symbol_table(bytes: &[u8], table: &Table) -> Result<SymbolTable, ReadFault>
-    requires long { length bytes.now ≤ 67108864 }
+    requires long { length bytes.now ≤ INPUT_LIMIT }
     requires table { IsTable bytes.now table.now }
     requires ranges { ranges_flaw bytes.now ≡ None }
     ensures table { IfOk result (λ t. IsSymbolTable bytes.now t) }
@@ -91,7 +76,7 @@ pub(crate) fn read_symbol_table(bytes: &[u8], table: &Table) -> Result<SymbolTab
 ///
 /// A second one.
 fn find_symbol_table(bytes: &[u8], table: &Table) -> Result<Option<u32>, ReadFault>
-    requires long { length bytes.now ≤ 67108864 }
+    requires long { length bytes.now ≤ INPUT_LIMIT }
     requires table { IsTable bytes.now table.now }
     ensures number { IfOk result (λ o. o ≡ slice_get (symbol_tables bytes.now) 0) }
     ensures flaw { result_err result ≡ second_table_flaw bytes.now }
@@ -100,7 +85,10 @@ fn find_symbol_table(bytes: &[u8], table: &Table) -> Result<Option<u32>, ReadFau
     for number in 1..table.count {
         if table.section(bytes, number).kind == SHT_SYMTAB {
             if found.is_some() {
-                return Err(fault_at(ReadKind::SymbolTable, table.place_of(number) + 4));
+                return Err(fault_at(
+                    ReadKind::SymbolTable,
+                    table.place_of(number) + Shdr::SH_TYPE,
+                ));
             }
             found = Some(number);
         }
@@ -116,16 +104,16 @@ fn check_form(bytes: &[u8], table: &Table, place: u64, header: &Shdr) -> Result<
     ensures { result_err result ≡ first_of (table_form_checks bytes.now place header.now) }
 {
     if header.size == 0 || header.size % Sym::SIZE as u64 != 0 {
-        return Err(fault_at(ReadKind::SymbolTable, place + 32));
+        return Err(fault_at(ReadKind::SymbolTable, place + Shdr::SH_SIZE));
     }
     if header.entsize != Sym::SIZE as u64 {
-        return Err(fault_at(ReadKind::SymbolTable, place + 56));
+        return Err(fault_at(ReadKind::SymbolTable, place + Shdr::SH_ENTSIZE));
     }
     if table.section(bytes, header.link).kind != SHT_STRTAB {
-        return Err(fault_at(ReadKind::SymbolTable, place + 40));
+        return Err(fault_at(ReadKind::SymbolTable, place + Shdr::SH_LINK));
     }
     if header.info == 0 || u64::from(header.info) > header.size / Sym::SIZE as u64 {
-        return Err(fault_at(ReadKind::SymbolTable, place + 44));
+        return Err(fault_at(ReadKind::SymbolTable, place + Shdr::SH_INFO));
     }
     Ok(())
 }
@@ -141,7 +129,7 @@ pub(crate) fn read_symbols(
     table: &Table,
     symbol_table: &SymbolTable,
 ) -> Result<Symbols, ReadError>
-    requires long { length bytes.now ≤ 67108864 }
+    requires long { length bytes.now ≤ INPUT_LIMIT }
     requires table { IsTable bytes.now table.now }
     requires symbol_table { IsSymbolTable bytes.now symbol_table.now }
     requires ranges { ranges_flaw bytes.now ≡ None }
@@ -174,9 +162,9 @@ fn read_symbol(
     first: bool,
     place: u64,
 ) -> Result<Symbol, ReadFault>
-    requires long { length bytes.now ≤ 67108864 }
+    requires long { length bytes.now ≤ INPUT_LIMIT }
     requires strings { IsIndexed bytes.now strings.now }
-    requires place { place + 24 ≤ length bytes.now }
+    requires place { place + Sym.SIZE ≤ length bytes.now }
     ensures symbol { IfOk result (λ y. y ≡ symbol_in bytes.now strings.now.header place) }
     ensures flaw { result_err result ≡ first_of (symbol_checks bytes.now count strings.now.header first place) }
 {
@@ -207,19 +195,25 @@ fn check_name(name: Option<Range>, first: bool, place: u64, symbol: &Sym) -> Res
         return Err(fault_at(ReadKind::NameRange, place));
     }
     if first != (binding == STB_LOCAL) {
-        return Err(fault_at(ReadKind::SymbolTable, place + 4));
+        return Err(fault_at(ReadKind::SymbolTable, place + Sym::ST_INFO));
     }
     if binding > STB_WEAK {
-        return Err(fault_at(ReadKind::Unsupported(Feature::Binding), place + 4));
+        return Err(fault_at(
+            ReadKind::Unsupported(Feature::Binding),
+            place + Sym::ST_INFO,
+        ));
     }
     if kind == STT_TLS {
-        return Err(fault_at(ReadKind::Unsupported(Feature::Tls), place + 4));
+        return Err(fault_at(ReadKind::Unsupported(Feature::Tls), place + Sym::ST_INFO));
     }
     if kind == STT_GNU_IFUNC {
-        return Err(fault_at(ReadKind::Unsupported(Feature::Ifunc), place + 4));
+        return Err(fault_at(ReadKind::Unsupported(Feature::Ifunc), place + Sym::ST_INFO));
     }
     if kind > STT_COMMON {
-        return Err(fault_at(ReadKind::Unsupported(Feature::SymbolType), place + 4));
+        return Err(fault_at(
+            ReadKind::Unsupported(Feature::SymbolType),
+            place + Sym::ST_INFO,
+        ));
     }
     Ok(())
 }
@@ -231,22 +225,25 @@ fn check_place(count: u32, place: u64, symbol: &Sym) -> Result<(), ReadFault>
     ensures { result_err result ≡ first_of (symbol_place_checks count place symbol.now) }
 {
     if symbol.shndx == SHN_XINDEX {
-        return Err(fault_at(ReadKind::Unsupported(Feature::Extended), place + 6));
+        return Err(fault_at(
+            ReadKind::Unsupported(Feature::Extended),
+            place + Sym::ST_SHNDX,
+        ));
     }
     if !has_section(count, symbol) {
-        return Err(fault_at(ReadKind::SymbolSection, place + 6));
+        return Err(fault_at(ReadKind::SymbolSection, place + Sym::ST_SHNDX));
     }
     if is_local(symbol) && (symbol.shndx == SHN_UNDEF || symbol.shndx == SHN_COMMON) {
-        return Err(fault_at(ReadKind::SymbolSection, place + 6));
+        return Err(fault_at(ReadKind::SymbolSection, place + Sym::ST_SHNDX));
     }
     if symbol.shndx == SHN_COMMON && !is_alignment(symbol.value) {
-        return Err(fault_at(ReadKind::Align, place + 8));
+        return Err(fault_at(ReadKind::Align, place + Sym::ST_VALUE));
     }
     if is_in_section(u32::from(symbol.shndx)) && is_too_large(symbol.value) {
-        return Err(fault_at(ReadKind::SymbolSection, place + 8));
+        return Err(fault_at(ReadKind::SymbolSection, place + Sym::ST_VALUE));
     }
     if symbol.shndx == SHN_COMMON && is_too_large(symbol.size) {
-        return Err(fault_at(ReadKind::SymbolSection, place + 16));
+        return Err(fault_at(ReadKind::SymbolSection, place + Sym::ST_SIZE));
     }
     Ok(())
 }

@@ -5,20 +5,12 @@ ghost use Rattle.std.specs.Result.{result_err};
 ghost use Rattle.kl_elf.specs.Records.{ehdr_at};
 ghost use Rattle.kl_rel.specs.Flaws.{first_of};
 ghost use Rattle.kl_rel.specs.Headers.{section, head_flaw, table_checks, range_flaw, ranges_flaw, header_place, null_header, IsTable};
+ghost use Rattle.kl_base.specs.declared.limits.TheConstants.{INPUT_LIMIT};
 
 use crate::fault::fault_at;
 use crate::{Feature, ReadFault, ReadKind};
+use kl_elf::abi::{SHN_XINDEX, SHT_NOBITS, SHT_NULL, SHT_STRTAB};
 use kl_elf::{Ehdr, Shdr, read_ehdr};
-
-pub(crate) const SHT_NULL: u32 = 0;
-
-pub(crate) const SHT_SYMTAB: u32 = 2;
-
-pub(crate) const SHT_STRTAB: u32 = 3;
-
-pub(crate) const SHT_NOBITS: u32 = 8;
-
-const SHN_XINDEX: u16 = 0xffff;
 
 /// The header of section 0.
 const NULL_HEADER: Shdr = Shdr {
@@ -48,11 +40,11 @@ pub(crate) struct Table {
 impl Table {
     /// The place of a section's header.
     pub(crate) fn place_of(&self, number: u32) -> u64
-        requires lies { self.now.place + 64 * self.now.count < 2 ^ 63 }
+        requires lies { self.now.place + Shdr.SIZE * self.now.count < 2 ^ 63 }
         requires number { number < self.now.count }
-        ensures { result ≡ self.now.place + 64 * number }
+        ensures { result ≡ self.now.place + Shdr.SIZE * number }
     {
-        self.place + 64 * u64::from(number)
+        self.place + Shdr::SIZE as u64 * u64::from(number)
     }
 
     /// The header of a section: the null header for number 0, and for a number that no section has.
@@ -74,7 +66,7 @@ impl Table {
 ///
 /// The first flaw of the two.
 pub(crate) fn read_table(bytes: &[u8]) -> Result<Table, ReadFault>
-    requires { length bytes.now ≤ 67108864 }
+    requires { length bytes.now ≤ INPUT_LIMIT }
     ensures table { IfOk result (λ t. IsTable bytes.now t) }
     ensures flaw { result_err result ≡ option_or (head_flaw bytes.now) (first_of (table_checks bytes.now)) }
 {
@@ -87,22 +79,22 @@ pub(crate) fn read_table(bytes: &[u8]) -> Result<Table, ReadFault>
 /// The section header table that a file header names.
 #[tactic(auto, unfolding(crate::specs::Headers::table_checks))]
 fn table_of(bytes: &[u8], head: &Ehdr) -> Result<Table, ReadFault>
-    requires long { length bytes.now ≤ 67108864 }
+    requires long { length bytes.now ≤ INPUT_LIMIT }
     requires head { head.now ≡ ehdr_at bytes.now 0 }
     ensures table { IfOk result (λ t. IsTable bytes.now t) }
     ensures flaw { result_err result ≡ first_of (table_checks bytes.now) }
 {
     if head.shnum == 0 && head.shoff != 0 {
-        return Err(fault_at(ReadKind::Unsupported(Feature::Extended), 60));
+        return Err(fault_at(ReadKind::Unsupported(Feature::Extended), Ehdr::E_SHNUM));
     }
     if head.shstrndx == SHN_XINDEX {
-        return Err(fault_at(ReadKind::Unsupported(Feature::Extended), 62));
+        return Err(fault_at(ReadKind::Unsupported(Feature::Extended), Ehdr::E_SHSTRNDX));
     }
     if head.shnum == 0 {
-        return Err(fault_at(ReadKind::SectionTable, 60));
+        return Err(fault_at(ReadKind::SectionTable, Ehdr::E_SHNUM));
     }
-    if !lies_in(bytes, head.shoff, 64 * u64::from(head.shnum)) {
-        return Err(fault_at(ReadKind::SectionTable, 40));
+    if !lies_in(bytes, head.shoff, Shdr::SIZE as u64 * u64::from(head.shnum)) {
+        return Err(fault_at(ReadKind::SectionTable, Ehdr::E_SHOFF));
     }
     let table = Table {
         place: head.shoff,
@@ -110,7 +102,7 @@ fn table_of(bytes: &[u8], head: &Ehdr) -> Result<Table, ReadFault>
         names: u32::from(head.shstrndx),
     };
     if table.section(bytes, table.names).kind != SHT_STRTAB {
-        return Err(fault_at(ReadKind::SectionTable, 62));
+        return Err(fault_at(ReadKind::SectionTable, Ehdr::E_SHSTRNDX));
     }
     Ok(table)
 }
@@ -131,7 +123,7 @@ fn lies_in(bytes: &[u8], offset: u64, size: u64) -> bool
 ///
 /// The first that does not.
 pub(crate) fn check_ranges(bytes: &[u8], table: &Table) -> Result<(), ReadFault>
-    requires long { length bytes.now ≤ 67108864 }
+    requires long { length bytes.now ≤ INPUT_LIMIT }
     requires table { IsTable bytes.now table.now }
     ensures { result_err result ≡ ranges_flaw bytes.now }
 {
@@ -149,7 +141,7 @@ fn check_range(bytes: &[u8], place: u64, section: &Shdr) -> Result<(), ReadFault
 {
     let has_bytes = section.kind != SHT_NULL && section.kind != SHT_NOBITS;
     if has_bytes && !lies_in(bytes, section.offset, section.size) {
-        return Err(fault_at(ReadKind::SectionRange, place + 24));
+        return Err(fault_at(ReadKind::SectionRange, place + Shdr::SH_OFFSET));
     }
     Ok(())
 }

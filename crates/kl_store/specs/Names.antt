@@ -1,9 +1,10 @@
 -- The names of a store, and the changes that its calls make.
-use Rattle.std.specs.Prelude.{ℕ, Bool, List, [], ◌∷◌, ◌++◌, take, Option, Some, None, unwrap_or, IsSome, codes, ⊤, nat_eq}
+use Rattle.std.specs.Prelude.{ℕ, Bool, List, [], ◌∷◌, ◌++◌, take, Option, Some, None, unwrap_or, IsSome, ⊤, nat_eq}
 use Rattle.std.specs.Ordering.{nat_cmp, eq_by_cmp}
 use Rattle.std.specs.Cmp.Lexicographic.{slice_cmp}
 use Rattle.std.specs.List.{ends_with}
 use Rattle.std.specs.FinMap.{FinMap, get, insert, remove}
+use Rattle.kl_base.specs.declared.limits.TheConstants.{SCRATCH_SUFFIX}
 
 -- the bytes that each name holds
 abbrev pub Names : Type 0
@@ -15,7 +16,7 @@ same_name = eq_by_cmp (slice_cmp nat_cmp)
 
 -- a name that ends in `.relink` is a scratch name, whose file no promise on files speaks of
 abbrev pub is_scratch : List ℕ → Bool
-is_scratch name = ends_with nat_eq name (codes ".relink")
+is_scratch name = ends_with nat_eq name SCRATCH_SUFFIX
 
 -- what one call may do to the names
 pub data Change : Type 0 where

@@ -1,4 +1,5 @@
 -- What holds of the sections and symbols of a simple kit.
+use Rattle.std.specs.Option.{option_map}
 use Rattle.std.proofs.Common.{ℕ, suc, ◌≡◌, ◌<◌, List, [], ◌∷◌, length, get_or, refl, ap, arith, Bool, true, false, not, ◌&&◌, ◌||◌, inl, inr, Option}
 use Rattle.std.specs.Prelude.{codes, cond, Some, None, ◌==◌, bit_and, is_none}
 use Rattle.std.specs.Str.{bytes_eq}
@@ -7,7 +8,8 @@ use Rattle.std.proofs.lemmas.Bool.{cases_Bool}
 use Rattle.std.proofs.lemmas.List.Folds.{list_all_at}
 use Rattle.kl_model.specs.Texts.{has, text_at}
 use Rattle.kl_model.specs.Lists.{each_from, among, number_in}
-use Rattle.kl_model.specs.Kept.{is_kept, is_repeated, section_at, input_at, no_input, earlier, named_area, typed_area, area_of, class_of, class_number}
+use Rattle.kl_model.specs.Kept.{is_kept, is_repeated, section_at, input_at, no_input, earlier, area_of, class_of}
+use Rattle.kl_model.specs.Areas.{named_area, typed_area, class_number}
 use Rattle.kl_model.specs.Line.{classes}
 use Rattle.kl_model.specs.Simple.{is_simple, is_simple_input, is_simple_section, is_simple_symbol, is_simple_field, is_empty, is_kernel, known_flags}
 use Rattle.kl_base.specs.declared.class.Class.{Class}
@@ -16,6 +18,9 @@ use Rattle.kl_model.specs.declared.object.Group.{Group}
 use Rattle.kl_model.specs.declared.object.Section.{Section}
 use Rattle.kl_model.specs.declared.object.Input.{Input}
 use Rattle.kl_model.specs.declared.kit.Kit.{Kit}
+use Rattle.kl_model.specs.Areas.{Area, row}
+use Rattle.kl_elf.specs.declared.abi.TheConstants.{SHT_NULL}
+use Rattle.kl_model.specs.declared.area.TheConstants as area
 
 pub and_left : (a b : Bool) → (a && b) ≡ true → a ≡ true
 and_left true b e = refl
@@ -137,10 +142,14 @@ ordinary_code kit b y runs code =
     let kind : y.kind ≡ 1 = (let k = code.kind in grind arith) in
     rw (unnamed (text_at b y.name) (class_of y) code.no_area, untyped (class_of y) y.kind kind, runs) refl
 
+abbrev frames : Area
+frames = row area.EH_FRAME (codes "eh_frame") (codes ".eh_frame") SHT_NULL Rodata true false
+
 -- its name is not that of the frames of calls
 pub not_frame : (name : List ℕ) → list_all (λ d. is_none (named_area d name)) classes ≡ true → bytes_eq name (codes ".eh_frame") ≡ false
 not_frame name e = go (bytes_eq name (codes ".eh_frame")) refl (unnamed name Rodata e)
   where
-    go : (t : Bool) → bytes_eq name (codes ".eh_frame") ≡ t → cond {A = Option ℕ} t (Some 7) None ≡ None → bytes_eq name (codes ".eh_frame") ≡ false
+    go : (t : Bool) → bytes_eq name (codes ".eh_frame") ≡ t → option_map (λ (x : Area). x.number) (cond {A = Option Area} t (Some frames) None) ≡ None
+        → bytes_eq name (codes ".eh_frame") ≡ false
     go true t h = cc
     go false t h = t

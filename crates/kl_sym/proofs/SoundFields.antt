@@ -14,8 +14,9 @@ use Rattle.kl_model.specs.Kept.{is_kept, input_at, no_input, no_section, section
 use Rattle.kl_model.specs.Names.{Occurrence, occurrences, piece_number, definition, place_of, is_common}
 use Rattle.kl_model.specs.Graphs.{Missing, Undefined, graph, piece_of, section_pieces, target, target_or, symbol_at, kept_field, input_fields, fields}
 use Rattle.kl_model.specs.Carries.{no_piece, piece_at}
-use Rattle.kl_model.specs.Reaches.{width}
-use Rattle.kl_model.specs.Faults.{is_global_definition, is_kind, is_kept_field, input_faults, all_field_faults}
+use Rattle.kl_model.specs.Relocations.{width}
+use Rattle.kl_model.specs.Faults.{is_global_definition, is_kept_field, input_faults, all_field_faults}
+use Rattle.kl_model.specs.Relocations.{is_kind}
 use Rattle.kl_model.specs.Fit.{AreFit, IsFitField, ShareNoByte, section_in}
 use Rattle.kl_model.specs.Simple.{is_simple_field, IsSourced, IsSimpleTarget, IsSimpleField, StandApart, IsWritable}
 use Rattle.kl_model.specs.declared.object.RawField.{RawField}

@@ -20,14 +20,15 @@ use Rattle.kl_model.specs.declared.graph.Target.TheVariants.{Place, Abs}
 use Rattle.kl_model.specs.declared.link.LinkFault.{LinkFault}
 use Rattle.kl_model.specs.declared.link.LinkFault.TheVariants as fault
 use Rattle.kl_sym.specs.declared.names.Definition.{Definition}
+use Rattle.kl_elf.specs.declared.abi.TheConstants.{SHN_ABS, STB_LOCAL}
 
 -- what a map has for a name
 abbrev pub found : List ℕ → BTreeMap (Bor (List ℕ)) Definition Global → Option Definition
 found q m = tree.get_by (λ k. slice_cmp nat_cmp q k.now) m
 
--- where a symbol leads that is absolute (gABI, SHN_ABS 0xfff1) or in a section that has a piece
+-- where a symbol leads that is absolute (gABI, SHN_ABS) or in a section that has a piece
 abbrev pub symbol_place : List (Option ℕ) → Symbol → Option Target
-symbol_place table y = cond (y.section == 0xfff1) (Some (Abs y.value)) (option_map (λ n. Place n y.value) (slice_index_or table y.section None))
+symbol_place table y = cond (y.section == SHN_ABS) (Some (Abs y.value)) (option_map (λ n. Place n y.value) (slice_index_or table y.section None))
 
 -- a symbol that isn't LOCAL
 abbrev pub occurrence : ℕ → Input → ℕ → Symbol → Occurrence
@@ -35,7 +36,7 @@ occurrence i x n y = record { input = i; number = n; name = text_at x.bytes y.na
 
 -- the GLOBAL definition that a symbol is, if it is one; those of an input; those of the inputs before number i
 abbrev pub defined : Kit → List Input → ℕ → Input → ℕ → Symbol → List Occurrence
-defined kit inputs i x n y = filter (is_global_definition kit inputs) (only_if (not (y.binding == 0)) (occurrence i x n y))
+defined kit inputs i x n y = filter (is_global_definition kit inputs) (only_if (not (y.binding == STB_LOCAL)) (occurrence i x n y))
 
 abbrev pub defined_in : Kit → List Input → ℕ → Input → List Occurrence
 defined_in kit inputs i x = each x.object.symbols (defined kit inputs i x)

@@ -2,7 +2,8 @@
 use Rattle.std.specs.Prelude.{ℕ, ◌≡◌, cond, List, [], ◌∷◌, Option, Some, None}
 use Rattle.kl_model.specs.Lists.{each, each_from}
 use Rattle.kl_model.specs.Texts.{text_at}
-use Rattle.kl_model.specs.Kept.{is_kept, input_at, area_of, class_of, class_number}
+use Rattle.kl_model.specs.Kept.{is_kept, input_at, area_of, class_of}
+use Rattle.kl_model.specs.Areas.{class_number}
 use Rattle.kl_model.specs.Names.{piece_number}
 use Rattle.kl_model.specs.declared.object.Section.{Section}
 use Rattle.kl_model.specs.declared.object.Input.{Input}

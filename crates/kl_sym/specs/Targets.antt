@@ -10,7 +10,8 @@ use Rattle.kl_model.specs.Lists.{only_if}
 use Rattle.kl_model.specs.Kept.{no_symbol}
 use Rattle.kl_model.specs.Graphs.{Missing, Removed, Undefined, target_or}
 use Rattle.kl_model.specs.Fit.{section_in}
-use Rattle.kl_model.specs.Faults.{from_of, is_kind, missing_faults}
+use Rattle.kl_model.specs.Faults.{from_of, missing_faults}
+use Rattle.kl_model.specs.Relocations.{is_kind}
 use Rattle.kl_model.specs.declared.object.Input.{Input}
 use Rattle.kl_model.specs.declared.object.Symbol.{Symbol}
 use Rattle.kl_model.specs.declared.object.RawField.{RawField}
@@ -21,6 +22,7 @@ use Rattle.kl_model.specs.declared.link.LinkFault.{LinkFault}
 use Rattle.kl_model.specs.declared.link.LinkFault.TheVariants as fault
 use Rattle.kl_sym.specs.Index.{symbol_place, target_in}
 use Rattle.kl_sym.specs.declared.names.Definition.{Definition}
+use Rattle.kl_elf.specs.declared.abi.TheConstants.{R_X86_64_NONE, STB_LOCAL, STB_WEAK}
 
 abbrev pub symbol_in : Input → ℕ → Symbol
 symbol_in x n = slice_index_or x.object.symbols n no_symbol
@@ -30,16 +32,16 @@ abbrev pub local_by : Option Target → List ℕ → Result Target Missing
 local_by (Some t) name = Ok t
 local_by None name = cond (bytes_eq name (codes ".eh_frame")) (Ok Gone) (Err Removed)
 
--- a name leads to its definition; an undefined WEAK one (gABI, 2) to 0
+-- a name leads to its definition; an undefined WEAK one to 0
 abbrev pub global_by : Option Target → ℕ → Result Target Missing
-global_by t binding = target_or t (cond (binding == 2) (Ok Zero) (Err Undefined))
+global_by t binding = target_or t (cond (binding == STB_WEAK) (Ok Zero) (Err Undefined))
 
 module _ (table : List (Option ℕ)) (m : BTreeMap (Bor (List ℕ)) Definition Global) (x : Input) where
   abbrev pub target_by : RawField → Result Target Missing
   target_by f =
       let y = symbol_in x f.symbol in
       cond (f.symbol == 0) (Ok (Abs 0))
-      (cond (y.binding == 0) (local_by (symbol_place table y) (text_at x.bytes (section_in x.object f.section).name))
+      (cond (y.binding == STB_LOCAL) (local_by (symbol_place table y) (text_at x.bytes (section_in x.object f.section).name))
       (global_by (target_in m (text_at x.bytes y.name)) y.binding))
 
   -- the faults of a missing target
@@ -49,7 +51,7 @@ module _ (table : List (Option ℕ)) (m : BTreeMap (Bor (List ℕ)) Definition G
   -- a field in the piece of its section, if that has one
   abbrev pub field_at : Option ℕ → ℕ → RawField → List Field
   field_at None i f = []
-  field_at (Some n) i f = only_if (not (f.kind == 0)) (record {
+  field_at (Some n) i f = only_if (not (f.kind == R_X86_64_NONE)) (record {
     from = record { input = i; section = f.rela; index = f.index };
     piece = n;
     offset = f.offset;
@@ -60,7 +62,7 @@ module _ (table : List (Option ℕ)) (m : BTreeMap (Bor (List ℕ)) Definition G
 
   abbrev pub faults_at : Option ℕ → ℕ → RawField → List LinkFault
   faults_at None i f = []
-  faults_at (Some n) i f = cond (f.kind == 0) [] (only_if (not (is_kind f.kind)) (fault.Kind (from_of i f) f.kind) ++ missing_by i f)
+  faults_at (Some n) i f = cond (f.kind == R_X86_64_NONE) [] (only_if (not (is_kind f.kind)) (fault.Kind (from_of i f) f.kind) ++ missing_by i f)
 
   abbrev pub field_by : ℕ → RawField → List Field
   field_by i f = field_at (slice_index_or table f.section None) i f

@@ -2,7 +2,8 @@
 ghost use Rattle.std.specs.Prelude.{◌≡◌, ◌⊎◌, ◌+◌, ◌<◌, ◌≤◌, ◌++◌, ◌∷◌, [], Ok, Some, length, slice_get, option_to_list, IfErr, IfOk, OnOk, IsTrue};
 ghost use Rattle.kl_model.specs.Texts.{text_at};
 ghost use Rattle.kl_model.specs.Kept.{input_at};
-ghost use Rattle.kl_model.specs.Faults.{all_field_faults, input_faults, is_kind};
+ghost use Rattle.kl_model.specs.Faults.{all_field_faults, input_faults};
+ghost use Rattle.kl_model.specs.Relocations.{is_kind};
 ghost use Rattle.kl_model.specs.Fit.{AreFit, IsFit, IsFitField, section_in};
 ghost use Rattle.kl_model.specs.Graphs.{input_fields};
 ghost use Rattle.kl_model.specs.Graphs.{fields as fields_of};
@@ -13,21 +14,9 @@ ghost use Rattle.kl_sym.specs.Targets.{target_by};
 
 use crate::names::{Index, lookup, name_text, symbol_name, symbol_place};
 use crate::pieces::PieceTable;
-use kl_model::{Field, FieldAt, Input, Kit, LinkFault, RawField, Target};
+use kl_elf::abi::{R_X86_64_NONE, STB_LOCAL, STB_WEAK};
+use kl_model::{Field, FieldAt, Input, Kit, LinkFault, RawField, Target, is_linked};
 use std::alloc::Global;
-
-const STB_LOCAL: u8 = 0;
-
-const STB_WEAK: u8 = 2;
-
-const R_X86_64_NONE: u32 = 0;
-
-/// Whether a relocation type is one that is linked (psABI, "Relocation Types").
-pub fn is_linked(kind: u32) -> bool
-    ensures { result ≡ is_kind kind }
-{
-    kind <= 2 || kind == 4 || (9 <= kind && kind <= 15) || kind == 24 || kind == 41 || kind == 42
-}
 
 /// The name of a section of an input.
 fn section_name<'a>(input: &'a Input, number: u32) -> &'a [u8]

@@ -10,13 +10,10 @@ ghost use Rattle.kl_sym.specs.Index.{Indexes, IsDouble, IsIndex, defined_before,
 
 use crate::pieces::PieceTable;
 use kl_base::{Listed, NoMemory};
+use kl_elf::abi::{SHN_ABS, STB_GLOBAL};
 use kl_model::{Input, Kit, LinkFault, NameText, Symbol, Target};
 use std::alloc::Global;
 use std::collections::BTreeMap;
-
-const SHN_ABS: u32 = 0xfff1;
-
-const STB_GLOBAL: u8 = 1;
 
 /// The definition of each name.
 pub type Index<'a> = BTreeMap<&'a [u8], Definition>;
@@ -40,7 +37,7 @@ pub fn name_text(alloc: Global, name: &[u8]) -> Result<NameText, NoMemory>
 pub fn symbol_place(table: &PieceTable, symbol: &Symbol) -> Option<Target>
     ensures { result ≡ symbol_place table.now symbol.now }
 {
-    if symbol.section == SHN_ABS {
+    if symbol.section == u32::from(SHN_ABS) {
         return Some(Target::Abs(symbol.value));
     }
     match table.items().get(symbol.section as usize) {

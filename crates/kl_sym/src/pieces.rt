@@ -2,7 +2,8 @@
 ghost use Rattle.std.specs.Prelude.{◌≡◌, ◌&&◌, not, ◌+◌, ◌<◌, ◌≤◌, ◌++◌, true, length, take, IfOk, OnOk, IsTrue};
 ghost use Rattle.kl_model.specs.Lists.{each};
 ghost use Rattle.kl_model.specs.Texts.{has};
-ghost use Rattle.kl_model.specs.Kept.{class_of as class_of_section, class_number};
+ghost use Rattle.kl_model.specs.Kept.{class_of as class_of_section};
+ghost use Rattle.kl_model.specs.Areas.{class_number};
 ghost use Rattle.kl_model.specs.Graphs.{piece_of, input_pieces};
 ghost use Rattle.kl_model.specs.Graphs.{section_pieces as pieces_of_sections};
 ghost use Rattle.kl_model.specs.declared.kit.Kit.{Kit};
@@ -12,18 +13,10 @@ ghost use Rattle.kl_model.specs.Simple.{is_simple};
 ghost use Rattle.kl_sym.specs.Tables.{IsOrdinary, piece_table, piece_tables};
 
 use kl_base::{Class, Listed, NoMemory, Range};
+use kl_elf::abi::{SHF_ALLOC, SHF_EXCLUDE, SHF_EXECINSTR, SHF_WRITE, SHT_NOBITS};
+use kl_model::area::class_number;
 use kl_model::{Input, Kit, Piece, PieceId, Section};
 use std::alloc::Global;
-
-const SHF_WRITE: u64 = 1;
-
-const SHF_ALLOC: u64 = 2;
-
-const SHF_EXECINSTR: u64 = 4;
-
-const SHF_EXCLUDE: u64 = 0x8000_0000;
-
-const SHT_NOBITS: u32 = 8;
 
 /// The number of each section's piece, by section number, where the section is kept.
 pub type PieceTable = Listed<Option<u32>>;
@@ -37,7 +30,7 @@ pub struct Pieced {
 
 /// Whether a section of a simple kit is kept.
 fn is_kept(section: &Section) -> bool
-    ensures { result ≡ (has section.now.flags 2 && not (has section.now.flags 0x80000000)) }
+    ensures { result ≡ (has section.now.flags SHF_ALLOC && not (has section.now.flags SHF_EXCLUDE)) }
 {
     section.flags & SHF_ALLOC != 0 && section.flags & SHF_EXCLUDE == 0
 }
@@ -57,18 +50,6 @@ fn class_of(section: &Section) -> Class
     }
 }
 
-/// The number of an area of ordinary pieces.
-fn ordinary_area(class: Class) -> u32
-    ensures { result ≡ class_number class }
-{
-    match class {
-        Class::Text => 0,
-        Class::Rodata => 1,
-        Class::Rwdata => 2,
-        Class::Bss => 3,
-    }
-}
-
 /// The piece of section `number` of input `i`, where it is in no area.
 fn ordinary_piece(i: u32, number: u32, section: &Section) -> Piece
     ensures { (kit : Kit) (x : Input) → IsOrdinary kit x section.now → result ≡ piece_of kit i x number section.now }
@@ -80,7 +61,7 @@ fn ordinary_piece(i: u32, number: u32, section: &Section) -> Piece
             section: number,
         },
         class,
-        area: ordinary_area(class),
+        area: class_number(class),
         size: section.size,
         align: section.align.max(1),
         bytes: Range {

@@ -2,33 +2,32 @@
 ghost use Rattle.std.specs.Prelude.{◌≡◌, ◌==◌, ◌&&◌, ◌∷◌, [], bit_and, is_none, not};
 ghost use Rattle.std.specs.List.{list_all, list_any};
 ghost use Rattle.kl_model.specs.Fit.{section_in};
-ghost use Rattle.kl_model.specs.Kept.{named_area};
+ghost use Rattle.kl_model.specs.Areas.{named_area};
 ghost use Rattle.kl_model.specs.Line.{classes};
-ghost use Rattle.kl_model.specs.Simple.{is_empty, is_kernel, is_simple, is_simple_field, is_simple_input, is_simple_section, is_simple_symbol, known_flags};
+ghost use Rattle.kl_model.specs.Simple.{is_empty, is_kernel, is_simple, is_simple_field, is_simple_input, is_simple_section, is_simple_symbol, known_flags, simple_kinds};
 ghost use Rattle.kl_base.specs.declared.class.Class.TheVariants.{Text, Rodata, Rwdata};
 ghost use Rattle.kl_model.specs.Texts.{has, text_at};
 
-use crate::fields::is_linked;
-use kl_base::Range;
-use kl_model::{Group, Input, Kit, KitKind, Object, RawField, Section, Symbol};
+use kl_base::{Class, Range};
+use kl_elf::abi::{
+    R_X86_64_64, R_X86_64_NONE, R_X86_64_PC32, R_X86_64_PLT32, SHF_ALLOC, SHF_COMPRESSED,
+    SHF_EXCLUDE, SHF_EXECINSTR, SHF_GROUP, SHF_INFO_LINK, SHF_MERGE, SHF_STRINGS, SHF_TLS,
+    SHF_WRITE, SHN_COMMON, SHT_PROGBITS, STB_GLOBAL, STB_LOCAL, STV_DEFAULT,
+};
+use kl_model::area::named_area;
+use kl_model::{Group, Input, Kit, KitKind, Object, RawField, Section, Symbol, is_linked};
 
-const SHT_PROGBITS: u32 = 1;
-
-const SHF_ALLOC: u64 = 2;
-
-const SHF_ALLOC_EXECINSTR: u64 = 6;
-
-/// The flags of a section that have a meaning here: SHF_WRITE, SHF_ALLOC, SHF_EXECINSTR, SHF_MERGE, SHF_STRINGS,
-/// SHF_INFO_LINK, SHF_GROUP, SHF_TLS, SHF_COMPRESSED and SHF_EXCLUDE (gABI).
-const KNOWN_FLAGS: u64 = 0x8000_0e77;
-
-const STB_LOCAL: u8 = 0;
-
-const STB_GLOBAL: u8 = 1;
-
-const STV_DEFAULT: u8 = 0;
-
-const SHN_COMMON: u32 = 0xfff2;
+/// The flags of a section that have a meaning here (gABI).
+const KNOWN_FLAGS: u64 = SHF_WRITE
+    | SHF_ALLOC
+    | SHF_EXECINSTR
+    | SHF_MERGE
+    | SHF_STRINGS
+    | SHF_INFO_LINK
+    | SHF_GROUP
+    | SHF_TLS
+    | SHF_COMPRESSED
+    | SHF_EXCLUDE;
 
 /// The bytes of a range, as far as the file has them.
 fn text_at(bytes: &[u8], range: Range) -> &[u8]
@@ -39,36 +38,18 @@ fn text_at(bytes: &[u8], range: Range) -> &[u8]
     &rest[..rest.len().min(range.len as usize)]
 }
 
-fn names_no_text_area(name: &[u8]) -> bool
-    ensures { result ≡ is_none (named_area Text name.now) }
-{
-    name != b".init".as_slice() && name != b".fini".as_slice()
-}
-
-fn names_no_rodata_area(name: &[u8]) -> bool
-    ensures { result ≡ is_none (named_area Rodata name.now) }
-{
-    name != b".eh_frame".as_slice()
-}
-
-fn names_no_rwdata_area(name: &[u8]) -> bool
-    ensures { result ≡ is_none (named_area Rwdata name.now) }
-{
-    !(name == b".ctors".as_slice()
-        || name == b".dtors".as_slice()
-        || name == b".init_array".as_slice()
-        || name == b".fini_array".as_slice())
-}
-
 /// Whether a name gives a section no area of its own.
 fn names_no_area(name: &[u8]) -> bool
     ensures { result ≡ list_all (λ c. is_none (named_area c name.now)) classes }
 {
-    names_no_text_area(name) && names_no_rodata_area(name) && names_no_rwdata_area(name)
+    named_area(Class::Text, name).is_none()
+        && named_area(Class::Rodata, name).is_none()
+        && named_area(Class::Rwdata, name).is_none()
+        && named_area(Class::Bss, name).is_none()
 }
 
 fn is_allocated(section: &Section) -> bool
-    ensures { result ≡ has section.now.flags 2 }
+    ensures { result ≡ has section.now.flags SHF_ALLOC }
 {
     section.flags & SHF_ALLOC != 0
 }
@@ -78,7 +59,7 @@ fn is_simple_section(bytes: &[u8], section: &Section) -> bool
 {
     !is_allocated(section)
         || section.kind == SHT_PROGBITS
-            && section.flags & KNOWN_FLAGS == SHF_ALLOC_EXECINSTR
+            && section.flags & KNOWN_FLAGS == SHF_ALLOC | SHF_EXECINSTR
             && names_no_area(text_at(bytes, section.name))
 }
 
@@ -88,12 +69,12 @@ fn is_simple_symbol(symbol: &Symbol) -> bool
     symbol.binding == STB_LOCAL
         || symbol.binding == STB_GLOBAL
             && symbol.visibility == STV_DEFAULT
-            && symbol.section != SHN_COMMON
+            && symbol.section != u32::from(SHN_COMMON)
 }
 
 /// Whether section `number` of an object is allocated; number 0 isn't.
 fn is_allocated_in(object: &Object, number: u32) -> bool
-    ensures { result ≡ has (section_in object.now number).flags 2 }
+    ensures { result ≡ has (section_in object.now number).flags SHF_ALLOC }
 {
     match number.checked_sub(1) {
         Some(place) => match object.sections.items().get(place as usize) {
@@ -105,9 +86,9 @@ fn is_allocated_in(object: &Object, number: u32) -> bool
 }
 
 fn is_simple_kind(kind: u32) -> bool
-    ensures { result ≡ list_any (λ k. kind == k) (0 ∷ 1 ∷ 2 ∷ 4 ∷ []) }
+    ensures { result ≡ list_any (λ k. kind == k) simple_kinds }
 {
-    kind < 3 || kind == 4
+    kind == R_X86_64_NONE || kind == R_X86_64_64 || kind == R_X86_64_PC32 || kind == R_X86_64_PLT32
 }
 
 fn is_simple_field(object: &Object, field: &RawField) -> bool

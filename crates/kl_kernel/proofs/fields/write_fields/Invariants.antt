@@ -1,7 +1,7 @@
 use Rattle.std.proofs.Common.{◌≡◌, ◌<◌, ℕ, get_or, take, []}
 use Rattle.kl_le.specs.Bytes.{Outside}
 use Rattle.kl_model.specs.Lists.{each}
-use Rattle.kl_model.specs.Reaches.{width}
+use Rattle.kl_model.specs.Relocations.{width}
 use Rattle.kl_kernel.specs.TextImage.{HoldsValue, field_at, field_place, range_fault}
 use Rattle.kl_kernel.proofs.fields.write_fields.Given as goal
 

@@ -2,7 +2,7 @@ use Rattle.std.proofs.Common.{ℕ, ◌≡◌, ◌<◌, ◌++◌, length, get_or,
 use Rattle.std.specs.Prelude.{◌==◌}
 use Rattle.kl_base.specs.declared.class.Class.TheVariants.{Text}
 use Rattle.kl_model.specs.Lists.{each_from, only_if}
-use Rattle.kl_model.specs.Kept.{same_class}
+use Rattle.kl_model.specs.Areas.{same_class}
 use Rattle.kl_model.specs.Line.{is_of_input, piece_part}
 use Rattle.kl_layout.specs.TextLine.{text_of}
 use Rattle.kl_layout.proofs.line.parts_by_input.Given as goal

@@ -6,6 +6,8 @@ use Rattle.kl_rel.proofs.Tables.{table_lies}
 use Rattle.kl_rel.proofs.Symbols.{symbols-length, symbol_fits}
 use Rattle.kl_rel.proofs.Grouping.{form_of, group_some, group_members, made_group, members-group}
 use Rattle.kl_rel.proofs.group.read_group.Goals as goal
+use Rattle.kl_base.specs.declared.limits.TheConstants.{INPUT_LIMIT}
+use Rattle.kl_elf.specs.declared.records.TheConstants.Sym as sym
 
 pub check_form-requires-clause-symbols : goal.check_form-requires-clause-symbols
 check_form-requires-clause-symbols c = rw c.requires.symbols (symbols-length c.args.bytes.now)
@@ -42,7 +44,7 @@ get-requires-clause-room c =
     omega (arith, here, size)
 
 -- the signature symbol's number is below a count that is small
-below : (b : ℕ) (info count long : ℕ) → info < count → b + 24 * count ≤ long → long ≤ 67108864 → info < 67108864
+below : (b : ℕ) (info count long : ℕ) → info < count → b + sym.SIZE * count ≤ long → long ≤ INPUT_LIMIT → info < INPUT_LIMIT
 below b info count long l h k = omega arith
 
 pub overflow_cast-header : goal.overflow_cast-header
@@ -74,7 +76,7 @@ returns-clause-group c =
     let members = rw c.section-header.ensures at c.in_ok-members.ensures.members in
     let name = rw (c.requires.symbols, c.requires.sections, c.section-header.ensures) at c.signature.ensures in
     let word = rw c.section-header.ensures at c.get.ensures.number in
-    sym (made_group b n c.in_ok-members.members _ c.signature.result members (rw word refl) name)
+    sym (made_group b n c.in_ok-members.members _ c.signature.result members (rw (word, c.from.ensures) refl) name)
 
 pub returns-clause-grouped : goal.returns-clause-grouped
 returns-clause-grouped c =

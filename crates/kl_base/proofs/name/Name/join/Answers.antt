@@ -3,6 +3,7 @@ use Rattle.std.proofs.lemmas.List.{take_at, append_assoc}
 use Rattle.kl_base.proofs.Joined.{name_fault-append}
 use Rattle.kl_base.proofs.Kept.{padded-name}
 use Rattle.kl_base.proofs.name.Name.join.Goals as goal
+use Rattle.kl_base.specs.declared.limits.TheConstants.{NAME_LIMIT}
 
 pub invariant_of-result : goal.invariant_of-result
 invariant_of-result c =
@@ -10,7 +11,7 @@ invariant_of-result c =
     let file = c.bytes-file.ensures in
     let a = c.bytes-folder.result.now in
     let b = c.bytes-file.result.now in
-    let h : length a + length b ≤ 255 = rw (folder.bytes, file.bytes) c.requires in
+    let h : length a + length b ≤ NAME_LIMIT = rw (folder.bytes, file.bytes) c.requires in
     padded-name c.joined.result (a ++ b) (length a + length b)
     (c.joined.ensures ∙ sym (append_assoc a b _)) (length-append a b) h
     (name_fault-append a b (rw folder.bytes folder.name) (rw file.bytes file.name) h)
