@@ -17,6 +17,3 @@ pub use limits::{
 pub use listed::{Bytes, Listed};
 pub use memory::NoMemory;
 pub use name::{Name, NameFault, are_path_bytes};
-
-#[cfg(test)]
-mod tests;

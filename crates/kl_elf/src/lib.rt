@@ -10,6 +10,3 @@ mod records;
 pub use head::{HeadFault, read_ehdr};
 pub use image::write_headers;
 pub use records::{Dyn, Ehdr, Phdr, Rela, Shdr, Sym};
-
-#[cfg(test)]
-mod tests;

@@ -1,4 +1,4 @@
--- What the reader answers.
+-- For the contracts inside this crate alone. -- What the reader answers.
 use Rattle.std.specs.Prelude.{◌≡◌, ◌≤◌, ℕ, List, Result, Ok, Err}
 use Rattle.kl_base.specs.declared.class.Slot.{Slot}
 use Rattle.kl_intent.specs.declared.intent.Entry.{Entry}

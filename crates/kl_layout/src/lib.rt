@@ -10,6 +10,3 @@ mod stops;
 pub use fault::LayoutFault;
 pub use laws::one_placement;
 pub use placement::place;
-
-#[cfg(test)]
-mod tests;

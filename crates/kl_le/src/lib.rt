@@ -75,6 +75,3 @@ impl<'a, const N: usize> Fixed<'a, N> {
         bytes
     }
 }
-
-#[cfg(test)]
-mod tests;

@@ -8,6 +8,3 @@ mod print;
 pub use laws::one_spelling;
 pub use map::Map;
 pub use print::print_map;
-
-#[cfg(test)]
-mod tests;

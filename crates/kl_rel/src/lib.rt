@@ -52,6 +52,3 @@ pub fn read_object(alloc: Global, bytes: &[u8]) -> Result<Object, ReadError>
         groups,
     })
 }
-
-#[cfg(test)]
-mod tests;

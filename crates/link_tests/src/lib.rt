@@ -1,5 +1,15 @@
-//! Tests of objects and linking: from the bytes of objects to the bytes of an image.
+//! Tests of objects and linking: from bytes and records to the bytes of an image and its map.
 #![tactic(auto)]
 
 #[cfg(test)]
+mod bytes;
+#[cfg(test)]
 mod kernels;
+#[cfg(test)]
+mod maps;
+#[cfg(test)]
+mod objects;
+#[cfg(test)]
+mod placements;
+#[cfg(test)]
+mod records;

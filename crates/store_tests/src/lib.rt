@@ -9,3 +9,5 @@ mod doubles;
 mod installs;
 #[cfg(test)]
 mod intents;
+#[cfg(test)]
+mod names;

@@ -1,7 +1,7 @@
 use Rattle.std.proofs.Common.{◌≡◌, length}
 use Rattle.std.specs.Prelude.{All}
 use Rattle.kl_model.specs.Simple.{IsSimplePiece}
-use Rattle.kl_layout.proofs.tests.graph.Given as goal
+use Rattle.link_tests.proofs.placements.graph.Given as goal
 
 abbrev pub invariant-loop-input : goal.invariant-loop-input
 invariant-loop-input l = record {

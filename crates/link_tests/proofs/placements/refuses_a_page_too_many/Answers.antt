@@ -1,4 +1,4 @@
-use Rattle.kl_layout.proofs.tests.refuses_a_page_too_many.Goals as goal
+use Rattle.link_tests.proofs.placements.refuses_a_page_too_many.Goals as goal
 
 pub place-requires-clause-simple : goal.place-requires-clause-simple
 place-requires-clause-simple g c = c.in_ok-greatest.ensures.simple c.in_ok-kit.kit c.in_ok-kit.ensures.no_runs

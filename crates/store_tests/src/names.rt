@@ -1,4 +1,4 @@
-use crate::{Listed, Name, NameFault};
+use kl_base::{Listed, Name, NameFault};
 use std::test::Fail;
 
 #[test]

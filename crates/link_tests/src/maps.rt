@@ -1,5 +1,5 @@
-use crate::{Map, print_map};
 use kl_base::{Class, Name};
+use kl_map::{Map, print_map};
 use kl_model::{AreaAt, Areas, PieceId, Placed, PlacedList, Placement};
 use std::alloc::Global;
 use std::test::Fail;

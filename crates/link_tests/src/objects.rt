@@ -1,11 +1,11 @@
-use crate::ReadKind::{
-    Align, FieldOverlap, GroupForm, Head, NameRange, RelaKindForm, RelaLink, RelaPlace,
-    SectionRange, SectionTable, SymbolSection, SymbolTable, Unsupported,
-};
-use crate::{Feature, ReadError, ReadFault, ReadKind, read_object};
 use kl_base::Range;
 use kl_elf::HeadFault;
 use kl_model::{RawField, Section, Symbol};
+use kl_rel::ReadKind::{
+    Align, FieldOverlap, GroupForm, Head, NameRange, RelaKindForm, RelaLink, RelaPlace,
+    SectionRange, SectionTable, SymbolSection, SymbolTable, Unsupported,
+};
+use kl_rel::{Feature, ReadError, ReadFault, ReadKind, read_object};
 use std::alloc::Global;
 use std::process::Abort;
 

@@ -1,5 +1,5 @@
-use crate::abi::{PF_R, PF_X, PT_LOAD};
-use crate::{Dyn, Ehdr, HeadFault, Phdr, Rela, Shdr, Sym, read_ehdr, write_headers};
+use kl_elf::abi::{PF_R, PF_X, PT_LOAD};
+use kl_elf::{Dyn, Ehdr, HeadFault, Phdr, Rela, Shdr, Sym, read_ehdr, write_headers};
 use std::test::Fail;
 
 /// The header of an object that has no flaw, as the gABI lays it out.

@@ -1,5 +1,5 @@
 use Rattle.std.proofs.Common.{refl, arith}
-use Rattle.kl_layout.proofs.tests.text.Goals as goal
+use Rattle.link_tests.proofs.placements.text.Goals as goal
 
 pub returns : goal.returns
 returns c = λ inputs h. record {

@@ -3,8 +3,8 @@ ghost use Rattle.kl_model.specs.Fit.{IsKernelKit};
 ghost use Rattle.kl_model.specs.Simple.{IsSimplePiece, IsSimpleGraph};
 ghost use Rattle.kl_model.specs.declared.kit.Kit.{Kit};
 
-use crate::{LayoutFault, place};
 use kl_base::{Class, Listed, Name, NoMemory, Range};
+use kl_layout::{LayoutFault, place};
 use kl_model::{AreaAt, Graph, Kit, KitKind, Made, Part, Piece, PieceId, Placement, Word};
 use std::alloc::Global;
 use std::test::Fail;

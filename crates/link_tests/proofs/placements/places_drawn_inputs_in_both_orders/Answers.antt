@@ -2,7 +2,7 @@ use Rattle.std.proofs.Common.{◌∙◌, List, [], ◌∷◌, refl, arith, subst
 use Rattle.std.proofs.lemmas.List.Sorted.{IsPermutation-swap}
 use Rattle.kl_model.specs.Orders.{drawn_count, IsOrder}
 use Rattle.kl_model.specs.declared.object.Part.{Part}
-use Rattle.kl_layout.proofs.tests.places_drawn_inputs_in_both_orders.Goals as goal
+use Rattle.link_tests.proofs.placements.places_drawn_inputs_in_both_orders.Goals as goal
 
 pub place-requires-clause-simple : goal.place-requires-clause-simple
 place-requires-clause-simple g c = c.in_ok-graph.ensures.simple c.in_ok-kit.kit c.in_ok-kit.ensures.no_runs

@@ -1,4 +1,4 @@
-use crate::{Fixed, get, put, put_bytes};
+use kl_le::{Fixed, get, put, put_bytes};
 use std::test::Fail;
 
 #[test]
