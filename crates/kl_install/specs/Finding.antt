@@ -1,4 +1,4 @@
--- For the contracts inside this crate alone. -- What is found in a slot.
+-- What is found in a slot. For the contracts inside this crate alone.
 use Rattle.std.specs.Prelude.{◌≡◌, ◌≤◌, ℕ, List, [], Option, Some, None, Result, Ok, Err, if◌then◌else◌, ⊤}
 use Rattle.std.specs.FinMap.{get}
 use Rattle.kl_base.specs.declared.class.Slot.{Slot}

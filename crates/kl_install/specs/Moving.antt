@@ -1,4 +1,4 @@
--- For the contracts inside this crate alone. -- The states between the first call of a commit and the last.
+-- The states between the first call of a commit and the last. For the contracts inside this crate alone.
 use Rattle.std.specs.Prelude.{◌≡◌, ◌≢◌, ◌⊎◌, ℕ, List, ◌++◌, Some, None, IsSome}
 use Rattle.std.specs.FinMap.{get}
 use Rattle.kl_store.specs.Names.{Names}

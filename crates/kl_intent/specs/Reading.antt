@@ -1,4 +1,4 @@
--- For the contracts inside this crate alone. -- What the reader answers.
+-- What the reader answers. For the contracts inside this crate alone.
 use Rattle.std.specs.Prelude.{◌≡◌, ◌≤◌, ℕ, List, Result, Ok, Err}
 use Rattle.kl_base.specs.declared.class.Slot.{Slot}
 use Rattle.kl_intent.specs.declared.intent.Entry.{Entry}

@@ -1,4 +1,4 @@
--- For the contracts inside this crate alone. -- The image of a kernel whose only bytes are those of text.
+-- The image of a kernel whose only bytes are those of text. For the contracts inside this crate alone.
 use Rattle.std.specs.Prelude.{ℕ, ◌+◌, ◌-◌, ◌*◌, ◌^◌, ◌%◌, ◌≡◌, ◌≤◌, ◌<◌, ◌⊎◌, true, cond, not, pos, ◌==◌, List, length, slice_index, slice_index_or, All}
 use Rattle.std.specs.Option.{option_map_or}
 use Rattle.kl_le.specs.Bytes.{num, Outside}

@@ -1,4 +1,4 @@
--- For the contracts inside this crate alone. -- What stands in text, in order: the ordinary pieces of each input, by the sequence of the inputs.
+-- What stands in text, in order: the ordinary pieces of each input, by the sequence of the inputs. For the contracts inside this crate alone.
 use Rattle.std.specs.Prelude.{ℕ, ◌%◌, ◌^◌, ◌≡◌, ◌<◌, ◌≤◌, List, [], ◌∷◌, ◌++◌, map, flat_map, length, slice_index, slice_index_or, replicate, unwrap_or}
 use Rattle.std.specs.List.{IsDistinct}
 use Rattle.kl_base.specs.declared.class.Class.TheVariants.{Text}

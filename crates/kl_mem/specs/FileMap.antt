@@ -1,4 +1,4 @@
--- For the contracts inside this crate alone. -- A map of files in memory, as names and their bytes.
+-- A map of files in memory, as names and their bytes. For the contracts inside this crate alone.
 use Rattle.std.specs.Prelude.{ℕ, List, [], ◌∷◌, Vec}
 use Rattle.std.specs.declared.alloc.Global.{Global}
 use Rattle.std.specs.FinMap.{empty, insert}

@@ -1,4 +1,4 @@
--- For the contracts inside this crate alone. -- The disk of a store that notes each of its steps.
+-- The disk of a store that notes each of its steps. For the contracts inside this crate alone.
 use Rattle.std.specs.Prelude.{◌≤◌, ℕ, List, [], ◌∷◌, length, take, ⊤}
 use Rattle.std.specs.FinMap.{empty, insert}
 use Rattle.kl_store.specs.Names.{Names, Change, carried_out}

@@ -1,4 +1,4 @@
--- For the contracts inside this crate alone. -- The entries that a reader holds.
+-- The entries that a reader holds. For the contracts inside this crate alone.
 use Rattle.std.specs.Prelude.{ℕ, ◌≡◌, true, List}
 use Rattle.kl_rel.specs.Headers.{section}
 use Rattle.kl_rel.specs.SymbolTables.{symbol_count}

@@ -1,4 +1,4 @@
--- For the contracts inside this crate alone. -- What a list of fields keeps beside them.
+-- What a list of fields keeps beside them. For the contracts inside this crate alone.
 use Rattle.std.specs.Prelude.{ℕ, ◌+◌, ◌≤◌, ◌<◌, ◌^◌, ◌≡◌, Bool, List, slice_index, not, MatchOption, Option}
 use Rattle.std.specs.List.{list_any, range_with_len, All}
 use Rattle.std.specs.Ordering.{nat_cmp, ordering_then}

@@ -1,4 +1,4 @@
--- For the contracts inside this crate alone. -- Which sections are in a group so far, by number.
+-- Which sections are in a group so far, by number. For the contracts inside this crate alone.
 use Rattle.std.specs.Prelude.{ℕ, ◌<◌, ◌≡◌, Bool, false, not, ◌&&◌, ◌==◌, nat_lt, List, length, slice_index_or}
 use Rattle.kl_model.specs.Lists.{number_in}
 use Rattle.kl_rel.specs.Headers.{head}

@@ -1,4 +1,4 @@
--- For the contracts inside this crate alone. -- What an index of a string table holds.
+-- What an index of a string table holds. For the contracts inside this crate alone.
 use Rattle.std.specs.Prelude.{ℕ, ◌+◌, ◌-◌, ◌*◌, ◌/◌, ◌<◌, ◌≤◌, ◌≡◌, ◌==◌, List, length, drop, slice_index, slice_range}
 use Rattle.std.specs.List.{position_or_len}
 use Rattle.kl_elf.specs.declared.records.Shdr.{Shdr}

@@ -1,4 +1,4 @@
--- For the contracts inside this crate alone. -- Where names are defined: what a map from names to definitions stands for.
+-- Where names are defined: what a map from names to definitions stands for. For the contracts inside this crate alone.
 use Rattle.std.specs.Prelude.{ℕ, ◌≡◌, cond, not, ◌==◌, List, Option, Some, None, filter, find, reverse, take, slice_index_or}
 use Rattle.std.specs.Str.{bytes_eq}
 use Rattle.std.specs.Option.{option_map}

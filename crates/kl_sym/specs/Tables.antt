@@ -1,4 +1,4 @@
--- For the contracts inside this crate alone. -- The pieces of sections, by section number.
+-- The pieces of sections, by section number. For the contracts inside this crate alone.
 use Rattle.std.specs.Prelude.{ℕ, ◌≡◌, cond, List, [], ◌∷◌, Option, Some, None}
 use Rattle.kl_model.specs.Lists.{each, each_from}
 use Rattle.kl_model.specs.Texts.{text_at}

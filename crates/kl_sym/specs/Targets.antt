@@ -1,4 +1,4 @@
--- For the contracts inside this crate alone. -- Where a field leads, and its faults, by the table of its input and an index of names.
+-- Where a field leads, and its faults, by the table of its input and an index of names. For the contracts inside this crate alone.
 use Rattle.std.specs.Prelude.{ℕ, cond, not, ◌==◌, List, [], ◌++◌, slice_index_or, codes, Option, Some, None, Result, Ok, Err}
 use Rattle.std.specs.Result.{result_unwrap_or}
 use Rattle.std.specs.Str.{bytes_eq}
