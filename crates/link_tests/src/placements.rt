@@ -25,7 +25,7 @@ fn kernel(alloc: Global, page: u64) -> Result<Kit, Fail>
     Ok(Kit {
         kind: KitKind::Kernel,
         output: Name::from_bytes(b"/bsd").ok().ok_or("a name")?,
-        base: PAGE * page,
+        base: 4096 * page,
         entry: Some(Word::new(alloc)),
         inputs: Listed::new(alloc),
         runs: Listed::new(alloc),
@@ -41,7 +41,7 @@ fn kernel(alloc: Global, page: u64) -> Result<Kit, Fail>
 
 // The `.text` of an input, aligned to 16 bytes.
 fn text(input: u32, size: u64) -> Piece
-    requires { size ≤ SIZE_LIMIT }
+    requires { size ≤ 2 ^ 30 }
     ensures { (inputs : ℕ) → input < inputs → IsSimplePiece inputs result }
 {
     Piece {
@@ -58,7 +58,7 @@ fn text(input: u32, size: u64) -> Piece
 fn graph(alloc: Global, parts: Vec<Part>, sizes: &[u64]) -> Result<Graph, NoMemory>
     requires count { length sizes.now ≡ length parts.items }
     requires few { length sizes.now ≤ 16 }
-    requires sizes { All (λ n. n ≤ SIZE_LIMIT) sizes.now }
+    requires sizes { All (λ n. n ≤ 2 ^ 30) sizes.now }
     ensures simple { IfOk result (λ g. (kit : Kit) → kit.runs ≡ [] → IsSimpleGraph kit g) }
     ensures parts { IfOk result (λ g. g.parts ≡ parts.items) }
 {
