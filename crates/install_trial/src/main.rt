@@ -7,9 +7,8 @@ mod trial;
 use crate::trial::{End, Trial};
 use kl_host::HostStore;
 use kl_mem::Fuse;
-use std::env;
-use std::io;
 use std::process::ExitCode;
+use std::{env, io};
 
 fn main(rt: HostRuntime) -> io::Result<ExitCode> {
     let alloc = rt.alloc();

@@ -1,6 +1,6 @@
 // The host's files below the starting folder, and what has to be synced to make them stable.
 ghost use Rattle.std.specs.Prelude.{◌≡◌, ◌≤◌, length, true, false, IfOk, OnErr, OnOk};
-ghost use Rattle.kl_host.specs.Notes.{files_to_sync, folders_to_sync, is_among, is_broken, is_known, IsNoted, IsSettled, Keeps};
+ghost use Rattle.kl_host.specs.Notes.{files_to_sync, folders_to_sync, is_among, is_broken, is_checked, is_known, is_relied_on, IsAsked, IsNoted, IsSettled, Keeps};
 ghost use Rattle.kl_host.specs.Disks.{notes_of};
 
 use crate::notes::Notes;
@@ -36,7 +36,7 @@ impl<R: Files + Drop> Disk<R> {
 
     // The length of the file, if it is there.
     pub fn size(&mut self, name: &Name) -> io::Result<Option<u64>>
-        ensures known { OnOk result (is_known name.now (notes_of self.new) ≡ true) }
+        ensures asked { OnOk result (IsAsked name.now (notes_of self.new)) }
         ensures keeps { Keeps (notes_of self.old) (notes_of self.new) }
     {
         self.ask(name)?;
@@ -46,7 +46,7 @@ impl<R: Files + Drop> Disk<R> {
     // Fills the buffer from the place on, as far as the file goes.
     pub fn read(&mut self, name: &Name, at: u64, buf: &mut [u8]) -> io::Result<usize>
         ensures bound { IfOk result (λ n. n ≤ length buf.old) }
-        ensures known { OnOk result (is_known name.now (notes_of self.new) ≡ true) }
+        ensures asked { OnOk result (IsAsked name.now (notes_of self.new)) }
         ensures keeps { Keeps (notes_of self.old) (notes_of self.new) }
     {
         self.ask(name)?;
@@ -76,7 +76,7 @@ impl<R: Files + Drop> Disk<R> {
     // made beside it and renamed over it, so that the name holds the one or the other at every moment.
     pub fn create(&mut self, name: &Name) -> io::Result<()>
         ensures noted { OnOk result (IsNoted name.now (notes_of self.new)) }
-        ensures known { OnOk result (is_known name.now (notes_of self.new) ≡ true) }
+        ensures asked { OnOk result (IsAsked name.now (notes_of self.new)) }
         ensures keeps { Keeps (notes_of self.old) (notes_of self.new) }
     {
         self.ask(name)?;
@@ -107,7 +107,7 @@ impl<R: Files + Drop> Disk<R> {
     // Adds the bytes at the file's end, in place. An absent file is created first.
     pub fn append(&mut self, name: &Name, bytes: &[u8]) -> io::Result<()>
         ensures noted { OnOk result (is_among name.now (files_to_sync (notes_of self.new)) ≡ true) }
-        ensures known { OnOk result (is_known name.now (notes_of self.new) ≡ true) }
+        ensures asked { OnOk result (IsAsked name.now (notes_of self.new)) }
         ensures keeps { Keeps (notes_of self.old) (notes_of self.new) }
     {
         if self.size(name)?.is_none() {
@@ -122,7 +122,8 @@ impl<R: Files + Drop> Disk<R> {
     pub fn rename(&mut self, from: &Name, to: &Name) -> io::Result<bool>
         ensures noted { IfOk result (λ was. was ≡ true → IsNoted to.now (notes_of self.new)) }
         ensures away { IfOk result (λ was. was ≡ true → is_among from.now (folders_to_sync (notes_of self.new)) ≡ true) }
-        ensures known { OnOk result (is_known from.now (notes_of self.new) ≡ true) }
+        ensures asked { OnOk result (IsAsked from.now (notes_of self.new)) }
+        ensures asked_to { IfOk result (λ was. was ≡ true → IsAsked to.now (notes_of self.new)) }
         ensures keeps { Keeps (notes_of self.old) (notes_of self.new) }
     {
         if self.size(from)?.is_none() {
@@ -150,7 +151,7 @@ impl<R: Files + Drop> Disk<R> {
     // Removes the file, and says whether it was there.
     pub fn remove(&mut self, name: &Name) -> io::Result<bool>
         ensures noted { OnOk result (is_among name.now (folders_to_sync (notes_of self.new)) ≡ true) }
-        ensures known { OnOk result (is_known name.now (notes_of self.new) ≡ true) }
+        ensures asked { OnOk result (IsAsked name.now (notes_of self.new)) }
         ensures keeps { Keeps (notes_of self.old) (notes_of self.new) }
     {
         self.ask(name)?;
@@ -200,7 +201,7 @@ impl<R: Files + Drop> Disk<R> {
     // An earlier process may have left changes that aren't synced. So whatever is asked of a name, its folder and those
     // above it are synced first, and the file too where its bytes will be relied on.
     fn ask(&mut self, name: &Name) -> io::Result<()>
-        ensures known { OnOk result (is_known name.now (notes_of self.new) ≡ true) }
+        ensures asked { OnOk result (IsAsked name.now (notes_of self.new)) }
         ensures keeps { Keeps (notes_of self.old) (notes_of self.new) }
     {
         self.ask_folders(name)?;
@@ -244,6 +245,7 @@ impl<R: Files + Drop> Disk<R> {
 
     // Syncs the file of a scratch name and the one whose temporary it is, or the file of a slot, once.
     fn ask_file(&mut self, name: &Name) -> io::Result<()>
+        ensures checked { OnOk result (is_relied_on name.now ≡ true → is_checked name.now (notes_of self.new) ≡ true) }
         ensures keeps { Keeps (notes_of self.old) (notes_of self.new) }
     {
         if !is_relied_on(name) || self.notes.has_checked(name) {
@@ -318,7 +320,9 @@ impl<R: Files + Drop> Disk<R> {
 }
 
 // Whether the bytes of a file of the name are relied on after a stop: those of a scratch name and of a slot.
-fn is_relied_on(name: &Name) -> bool {
+fn is_relied_on(name: &Name) -> bool
+    ensures { result ≡ is_relied_on name.now }
+{
     target_path(name).is_some()
         || *name == slot_name(Slot::Kernel)
         || *name == slot_name(Slot::Libs)

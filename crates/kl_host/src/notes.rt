@@ -115,11 +115,15 @@ impl Notes {
         self.changed.clear();
     }
 
-    pub fn written(&self) -> &[Name] {
+    pub fn written(&self) -> &[Name]
+        ensures { result.now ≡ files_to_sync self.now }
+    {
         &self.written
     }
 
-    pub fn changed(&self) -> &[Name] {
+    pub fn changed(&self) -> &[Name]
+        ensures { result.now ≡ folders_to_sync self.now }
+    {
         &self.changed
     }
 }

@@ -3,7 +3,7 @@ ghost use Rattle.std.specs.Prelude.{◌≡◌, ◌≤◌, length, take, true, by
 ghost use Rattle.std.specs.List.{list_all};
 ghost use Rattle.kl_base.specs.Names.{is_path_byte};
 ghost use Rattle.kl_store.specs.Names.{is_scratch};
-ghost use Rattle.kl_host.specs.Paths.{folder_of, folder_path, path_of, target_of};
+ghost use Rattle.kl_host.specs.Paths.{folder_of, IsFolder, folder_path, path_of, target_of};
 
 use kl_base::{Name, SCRATCH_SUFFIX};
 use std::str;
@@ -50,6 +50,7 @@ pub fn target_path(name: &Name) -> Option<&str>
 // The bytes before the last slash of the name.
 fn folder(name: &Name) -> &[u8]
     ensures folder { result.now ≡ folder_of name.now }
+    ensures is_folder { IsFolder result.now name.now }
     ensures path { list_all is_path_byte result.now ≡ true }
 {
     let bytes = name.bytes();

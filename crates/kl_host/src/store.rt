@@ -3,7 +3,7 @@ ghost use Rattle.std.specs.Prelude.{◌≡◌, ◌≢◌, ◌≤◌, length, opt
 ghost use Rattle.kl_store.specs.Names.{Create, Append, Rename, Remove};
 ghost use Rattle.kl_store.specs.Meaning.{untold};
 ghost use Rattle.kl_store.specs.Calls.{Does, DoesIf, HasCause, Holds, Reads, Settles, Stays};
-ghost use Rattle.kl_host.specs.Notes.{files_to_sync, folders_to_sync, is_among, is_broken, is_known, IsNoted, IsSettled, Keeps};
+ghost use Rattle.kl_host.specs.Notes.{files_to_sync, folders_to_sync, is_among, is_broken, IsAsked, IsNoted, IsSettled, Keeps};
 ghost use Rattle.kl_host.specs.Disks.{notes};
 
 use crate::disk::Disk;
@@ -48,7 +48,7 @@ impl<R: Files + Drop> Store for HostStore<R> {
         ensures size { IfOk result (λ n. Holds untold name.now (λ file. n ≡ option_map length file)) }
         ensures still { Stays untold untold }
         ensures cause { HasCause self.old.faults self.new.faults result }
-        ensures known { OnOk result (is_known name.now (notes self.new) ≡ true) }
+        ensures asked { OnOk result (IsAsked name.now (notes self.new)) }
         ensures keeps { Keeps (notes self.old) (notes self.new) }
     {
         let done = self.disk.size(name);
@@ -60,7 +60,7 @@ impl<R: Files + Drop> Store for HostStore<R> {
         ensures bytes { IfOk result (λ n. Holds untold name.now (Reads at n buf.old buf.new)) }
         ensures still { Stays untold untold }
         ensures cause { HasCause self.old.faults self.new.faults result }
-        ensures known { OnOk result (is_known name.now (notes self.new) ≡ true) }
+        ensures asked { OnOk result (IsAsked name.now (notes self.new)) }
         ensures keeps { Keeps (notes self.old) (notes self.new) }
     {
         let done = self.disk.read(name, at, buf);
@@ -71,7 +71,7 @@ impl<R: Files + Drop> Store for HostStore<R> {
         ensures does { Does (Create name.now) untold untold result }
         ensures cause { HasCause self.old.faults self.new.faults result }
         ensures noted { OnOk result (IsNoted name.now (notes self.new)) }
-        ensures known { OnOk result (is_known name.now (notes self.new) ≡ true) }
+        ensures asked { OnOk result (IsAsked name.now (notes self.new)) }
         ensures keeps { Keeps (notes self.old) (notes self.new) }
     {
         let done = self.disk.create(name);
@@ -82,7 +82,7 @@ impl<R: Files + Drop> Store for HostStore<R> {
         ensures does { Does (Append name.now bytes.now) untold untold result }
         ensures cause { HasCause self.old.faults self.new.faults result }
         ensures noted { OnOk result (is_among name.now (files_to_sync (notes self.new)) ≡ true) }
-        ensures known { OnOk result (is_known name.now (notes self.new) ≡ true) }
+        ensures asked { OnOk result (IsAsked name.now (notes self.new)) }
         ensures keeps { Keeps (notes self.old) (notes self.new) }
     {
         let done = self.disk.append(name, bytes);
@@ -95,7 +95,8 @@ impl<R: Files + Drop> Store for HostStore<R> {
         ensures cause { HasCause self.old.faults self.new.faults result }
         ensures noted { IfOk result (λ was. was ≡ true → IsNoted to.now (notes self.new)) }
         ensures away { IfOk result (λ was. was ≡ true → is_among from.now (folders_to_sync (notes self.new)) ≡ true) }
-        ensures known { OnOk result (is_known from.now (notes self.new) ≡ true) }
+        ensures asked { OnOk result (IsAsked from.now (notes self.new)) }
+        ensures asked_to { IfOk result (λ was. was ≡ true → IsAsked to.now (notes self.new)) }
         ensures keeps { Keeps (notes self.old) (notes self.new) }
     {
         let done = self.disk.rename(from, to);
@@ -106,7 +107,7 @@ impl<R: Files + Drop> Store for HostStore<R> {
         ensures does { DoesIf (Remove name.now) untold untold result }
         ensures cause { HasCause self.old.faults self.new.faults result }
         ensures noted { OnOk result (is_among name.now (folders_to_sync (notes self.new)) ≡ true) }
-        ensures known { OnOk result (is_known name.now (notes self.new) ≡ true) }
+        ensures asked { OnOk result (IsAsked name.now (notes self.new)) }
         ensures keeps { Keeps (notes self.old) (notes self.new) }
     {
         let done = self.disk.remove(name);
