@@ -1,8 +1,8 @@
 -- Two names joined are a name.
-use Rattle.std.proofs.Common.{◌≡◌, ℕ, ◌+◌, ◌≤◌, Bool, true, false, not, ◌&&◌, ◌||◌, List, [], ◌∷◌, ◌++◌, length, refl, sym, ap, ◌∙◌, arith, length-append, Option}
+use Rattle.std.proofs.Common.{◌≡◌, ℕ, ◌+◌, ◌≤◌, Bool, true, false, not, ◌&&◌, ◌||◌, List, [], ◌∷◌, ◌++◌, length, refl, ap, ◌∙◌, arith, length-append, Option}
 use Rattle.std.specs.Prelude.{Some, None, ◌==◌, cond}
-use Rattle.std.proofs.lemmas.Bool.{le-ltb, ne_eqb}
-use Rattle.std.proofs.lemmas.Bool.{eqb-true}
+use Rattle.std.specs.List.{list_all}
+use Rattle.std.proofs.lemmas.Bool.{le-ltb, ne_eqb, eqb-true, not-false}
 use Rattle.std.proofs.lemmas.List.Folds.{list_all-append}
 use Rattle.kl_base.specs.Names.{name_fault, stands, any_suffix, slash_then, ends_part, dots, is_path_byte}
 use Rattle.kl_base.specs.declared.name.NameFault.TheVariants.{Empty, TooLong, NotAbsolute, BadByte, EmptyPart, DotPart}
@@ -30,6 +30,10 @@ sound-none n e =
     let g = not_chosen (stands n EmptyPart) EmptyPart _ f.1 in
     let h = not_chosen (stands n DotPart) DotPart _ g.1 in
     record { empty = a.0; long = b.0; absolute = d.0; bytes = f.0; parts = g.0; dot = h.0 }
+
+-- the bytes of a name
+pub name_bytes : (n : List ℕ) → name_fault n ≡ None → list_all is_path_byte n ≡ true
+name_bytes n e = not-false (list_all is_path_byte n) (sound-none n e).bytes
 
 pub none-sound : (n : List ℕ) → IsSound n → name_fault n ≡ None
 none-sound n s = rw (s.empty, s.long, s.absolute, s.bytes, s.parts, s.dot) refl
@@ -66,12 +70,8 @@ suffixes-append test xs ys same left right =
     any_suffix-append (slash_then test) (slash_then test) xs (47 ∷ ys) (λ x zs. ap (λ b. (x == 47) && b) (same zs))
     ∙ rw (left, right) refl
 
-not_false : (b : Bool) → not b ≡ false → b ≡ true
-not_false true e = refl
-not_false false e = sym e
-
 begins : (b : ℕ) → not (b == 47) ≡ false → b ≡ 47
-begins b e = eqb-true b 47 (not_false (b == 47) e)
+begins b e = eqb-true b 47 (not-false (b == 47) e)
 
 -- two names joined are a name
 pub name_fault-append : (a b : List ℕ) → name_fault a ≡ None → name_fault b ≡ None → length a + length b ≤ NAME_LIMIT → name_fault (a ++ b) ≡ None
@@ -86,7 +86,7 @@ name_fault-append a b na nb h = go a b (sound-none a na) (sound-none b nb) h
           empty = ne_eqb (length (x ∷ xs ++ y ∷ ys)) 0 (λ e. omega (arith, e));
           long = le-ltb NAME_LIMIT (length (x ∷ xs ++ y ∷ ys)) (omega (arith, length-append (x ∷ xs) (y ∷ ys)));
           absolute = s.absolute;
-          bytes = rw (list_all-append is_path_byte (x ∷ xs) (y ∷ ys), not_false _ s.bytes, not_false _ t.bytes) refl;
+          bytes = rw (list_all-append is_path_byte (x ∷ xs) (y ∷ ys), not-false _ s.bytes, not-false _ t.bytes) refl;
           parts = rw slash (suffixes-append ends_part (x ∷ xs) ys (λ zs. ends_part-append zs ys) s.parts (rw slash at t.parts));
           dot = rw slash (suffixes-append dots (x ∷ xs) ys (λ zs. dots-append zs ys) s.dot (rw slash at t.dot));
         })

@@ -1,10 +1,11 @@
 -- A record is not refused, and has one digest.
-use Rattle.std.proofs.Common.{◌≡◌, ◌⊎◌, inl, inr, ◌+◌, ◌&&◌, ◌==◌, ◌||◌, ℕ, Bool, true, false, cond, List, [], ◌∷◌, ◌++◌, length, take, drop, refl, sym, ap, ◌∙◌, arith, subst}
+use Rattle.std.proofs.Common.{◌≡◌, ◌⊎◌, inl, inr, ◌+◌, ◌==◌, ◌||◌, ℕ, true, cond, List, [], ◌∷◌, ◌++◌, length, take, drop, refl, sym, ap, ◌∙◌, arith, subst}
 use Rattle.std.specs.Prelude.{Option, Some, None, Ok}
 use Rattle.std.specs.List.{list_all}
 use Rattle.std.proofs.Math.Seq.{take-append_seam, drop-append_seam, drop-append-add}
 use Rattle.std.proofs.lemmas.List.{append-nil, length-append}
 use Rattle.std.proofs.lemmas.List.Sums.{list_all-from_AllPass}
+use Rattle.std.proofs.lemmas.Bool.{and_parts}
 use Rattle.hex.specs.Hex.{is_hex_digit, decode_of}
 use Rattle.hex.proofs.HexLemmas.{decode_of-ok, decode_of-same}
 use Rattle.kl_digest.specs.declared.record.RecordFault.{RecordFault}
@@ -12,14 +13,10 @@ use Rattle.kl_digest.specs.declared.record.RecordFault.TheVariants.{Length}
 use Rattle.kl_digest.specs.Records.{record_prefix, text_place, digit_place, is_end, content_fault, record_fault, IsRecord}
 use Rattle.kl_digest.proofs.Digits.{alike, content_is}
 
-both : (b c : Bool) → (b && c) ≡ true → (b ≡ true) × (c ≡ true)
-both true c h = (refl, h)
-both false c h = cc
-
 digits_right : (ds : List ℕ) (n : ℕ) → list_all is_hex_digit ds ≡ true → digit_place ds n ≡ None
 digits_right [] n all = refl
 digits_right (d ∷ ds) n all =
-    let parts = both (is_hex_digit d) (list_all is_hex_digit ds) all in
+    let parts = and_parts (is_hex_digit d) (list_all is_hex_digit ds) all in
     ap (λ b. cond b (digit_place ds (n + 1)) (Some n)) parts.0 ∙ digits_right ds (n + 1) parts.1
 
 text_right : (ps xs : List ℕ) (n : ℕ) → text_place ps (ps ++ xs) n ≡ None

@@ -5,6 +5,7 @@ use Rattle.std.specs.List.{list_all}
 use Rattle.std.specs.Option.{option_or}
 use Rattle.std.proofs.lemmas.Bool.{eqb-true}
 use Rattle.hex.specs.Hex.{is_hex_digit}
+use Rattle.kl_base.proofs.Bools.{true_false}
 use Rattle.kl_digest.specs.declared.record.RecordFault.{RecordFault}
 use Rattle.kl_digest.specs.declared.record.RecordFault.TheVariants.{Length, Text, Digit, End}
 use Rattle.kl_digest.specs.Records.{record_prefix, text_place, digit_place, is_end, at_text, at_digit, content_fault, record_fault}
@@ -16,9 +17,6 @@ same_place x y e = cc
 
 none_some : {A P : Type 0} (x : A) → ◌≡◌ {A = Option A} None (Some x) → P
 none_some x e = cc
-
-true_false : {P : Type 0} → true ≡ false → P
-true_false e = cc
 
 -- two lists up to where they differ first
 record DifferAt (ps bs : List ℕ) (n place : ℕ) : Type 0 where

@@ -1,17 +1,14 @@
 -- The kit texts that are read: four lines that name an entry and one head input.
-use Rattle.std.specs.Prelude.{ℕ, ◌≡◌, Bool, true, false, not, cond, ◌&&◌, ◌==◌, nat_le, nat_eq, List, [], ◌∷◌, ◌++◌, length, take, drop, codes, is_none, Option, Some, None}
+use Rattle.std.specs.Prelude.{ℕ, ◌≡◌, Bool, true, false, not, cond, ◌&&◌, ◌==◌, nat_le, nat_eq, List, [], ◌∷◌, ◌++◌, length, codes, is_none, Option, Some, None}
 use Rattle.std.specs.Str.{bytes_eq}
-use Rattle.std.specs.Option.{option_map, option_and_then}
+use Rattle.std.specs.Option.{option_and_then}
 use Rattle.std.specs.List.{list_all, ends_with}
 use Rattle.kl_base.specs.Names.{name_fault, is_path_byte}
+use Rattle.kl_text.specs.Lines.{line, after_prefix, first_line}
 use Rattle.kl_model.specs.declared.kit.Kit.{Kit}
 use Rattle.kl_model.specs.declared.kit.KitKind.TheVariants.{Kernel}
 use Rattle.kl_model.specs.declared.object.Part.TheVariants.{Head}
 use Rattle.kl_base.specs.declared.limits.TheConstants.{FILE_LIMIT, KERNEL_BASE, SCRATCH_SUFFIX, WORD_LIMIT}
-
--- bytes and a newline
-abbrev pub line : List ℕ → List ℕ
-line bytes = bytes ++ 10 ∷ []
 
 -- a SYMBOL is at least one byte, and up to the limit, from 0x21 to 0x7e
 abbrev pub is_symbol : List ℕ → Bool
@@ -35,17 +32,6 @@ pub record IsFirstKit (text symbol file : List ℕ) : Type 0 where
 -- the entry and the input of a text of that form, as they are found from the left
 abbrev pub opening : List ℕ
 opening = line (codes "kind kernel") ++ (line (codes "output /bsd") ++ codes "entry ")
-
-abbrev pub after_prefix : List ℕ → List ℕ → Option (List ℕ)
-after_prefix p text = cond (bytes_eq (take (length p) text) p) (Some (drop (length p) text)) None
-
-abbrev pub is_newline : ℕ → Bool
-is_newline b = b == 10
-
--- the first line of a text that has a newline, and what follows it
-abbrev pub first_line : List ℕ → Option (List ℕ × List ℕ)
-first_line [] = None
-first_line (b ∷ text) = cond (is_newline b) (Some ([], text)) (option_map (λ (l, rest). (b ∷ l, rest)) (first_line text))
 
 abbrev pub words_of : List ℕ → List ℕ × List ℕ → Option (List ℕ × List ℕ)
 words_of symbol (file, rest) = cond (length rest == 0) (cond (is_symbol symbol && is_file file) (Some (symbol, file)) None) None

@@ -1,14 +1,14 @@
 // A kit text of four lines.
-ghost use Rattle.std.specs.Prelude.{◌≡◌, ◌≤◌, ◌<◌, ◌∷◌, ◌+◌, ℕ, List, Option, length, IfOk, IfSome, IfNone, true};
+ghost use Rattle.std.specs.Prelude.{◌≡◌, ℕ, List, Option, IfOk, IfSome, IfNone, true};
 ghost use Rattle.std.specs.Option.{option_map};
-ghost use Rattle.std.specs.List.{position_from};
 ghost use Rattle.kl_model.specs.Fit.{IsKernelKit};
-ghost use Rattle.kl_first.specs.KitText.{IsFirstKit, after_prefix, first_line, is_newline, first_kit, is_symbol, is_file, kit_of};
+ghost use Rattle.kl_first.specs.KitText.{IsFirstKit, first_kit, is_symbol, is_file, kit_of};
 
 use kl_base::{
     FILE_LIMIT, KERNEL_BASE, Listed, Name, NoMemory, SCRATCH_SUFFIX, WORD_LIMIT, are_path_bytes,
 };
 use kl_model::{Kit, KitInput, KitKind, Part, Word};
+use kl_text::first_line;
 use std::alloc::Global;
 
 /// What a kit text of four lines says: the entry symbol, and the input file below the kit's folder.
@@ -33,29 +33,13 @@ fn parse(text: &[u8]) -> Option<FirstKit<'_>>
     ensures { option_map (λ k. (k.entry.now, k.file.now)) result ≡ first_kit text.now }
 {
     let rest = text.strip_prefix(b"kind kernel\noutput /bsd\nentry ")?;
-    let (entry, rest) = split_line(rest)?;
-    let (file, rest) = split_line(rest.strip_prefix(b"head ")?)?;
+    let (entry, rest) = first_line(rest)?;
+    let (file, rest) = first_line(rest.strip_prefix(b"head ")?)?;
     if rest.is_empty() && is_symbol(entry) && is_file(file) {
         Some(FirstKit { entry, file })
     } else {
         None
     }
-}
-
-// the first line without its newline, and what follows it
-fn split_line(text: &[u8]) -> Option<(&[u8], &[u8])>
-    ensures { option_map (λ x. (x.0.now, x.1.now)) result ≡ first_line text.now }
-{
-    let end = newline(text)?;
-    Some((&text[..end], &text[end + 1..]))
-}
-
-// the place of the first newline
-fn newline(text: &[u8]) -> Option<usize>
-    ensures place { result ≡ position_from is_newline 0 text.now }
-    ensures within { IfSome result (λ n. n < length text.now) }
-{
-    text.iter().position(|b| *b == b'\n')
 }
 
 fn is_symbol(word: &[u8]) -> bool

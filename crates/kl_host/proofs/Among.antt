@@ -1,9 +1,10 @@
 -- A test of the items of a list, one more at its end.
-use Rattle.std.proofs.Common.{◌≡◌, ℕ, Bool, true, false, ◌||◌, List, [], ◌∷◌, ◌++◌, refl, ap, ◌∙◌, bytes_eq, arith}
+use Rattle.std.proofs.Common.{◌≡◌, ℕ, Bool, true, false, ◌||◌, List, [], ◌∷◌, ◌++◌, refl, ap, ◌∙◌, bytes_eq}
 use Rattle.std.specs.Prelude.{nat_eq}
 use Rattle.std.specs.List.{list_any}
 use Rattle.std.specs.Cmp.Lexicographic.{pointwise}
 use Rattle.std.proofs.lemmas.List.Folds.{list_any-append}
+use Rattle.kl_base.proofs.Bools.{same_bytes}
 use Rattle.kl_host.specs.Paths.{folder_of}
 use Rattle.kl_host.specs.Notes.{is_among}
 
@@ -26,14 +27,6 @@ any_other p xs x is = list_any-append p xs (x ∷ []) ∙ (ap (λ b. list_any p 
 -- one more item changes no test that is passed
 pub any_more : {A : Type 0} (p : A → Bool) (xs : List A) (x : A) → list_any p xs ≡ true → list_any p (xs ++ x ∷ []) ≡ true
 any_more p xs x is = list_any-append p xs (x ∷ []) ∙ ap (λ b. b || (p x || false)) is
-
--- bytes are themselves
-same_byte : (b : ℕ) → nat_eq b b ≡ true
-same_byte b = grind arith
-
-pub same_bytes : (xs : List ℕ) → pointwise nat_eq xs xs ≡ true
-same_bytes [] = refl
-same_bytes (x ∷ xs) = rw (same_byte x, same_bytes xs) refl
 
 -- the last name is among them, and its folder
 pub among_last : (name : List ℕ) (names : List (List ℕ)) → is_among name (names ++ name ∷ []) ≡ true

@@ -7,7 +7,7 @@ use Rattle.std.proofs.lemmas.Bool.{eqb-true}
 use Rattle.kl_base.specs.Names.{name_fault}
 use Rattle.kl_base.proofs.Joined.{sound-none}
 use Rattle.kl_host.specs.Paths.{IsFolder, folder_of, has_slash}
-use Rattle.kl_host.proofs.PathBytes.{not_false}
+use Rattle.std.proofs.lemmas.Bool.{not-false}
 use Rattle.kl_host.proofs.Among.{any_last, any_other}
 
 pub folder_slash : (xs : List ℕ) (b : ℕ) → (b == 47) ≡ true → folder_of (xs ++ b ∷ []) ≡ xs
@@ -48,7 +48,7 @@ is_folder (b ∷ bytes) e = splits b bytes (has_slash bytes) refl e (λ h. is_fo
 -- and a name has one, its first byte
 slash_first : (n : List ℕ) → name_fault n ≡ None → has_slash n ≡ true
 slash_first [] e = cc
-slash_first (b ∷ bytes) e = rw (not_false (b == 47) (sound-none (b ∷ bytes) e).absolute) refl
+slash_first (b ∷ bytes) e = rw (not-false (b == 47) (sound-none (b ∷ bytes) e).absolute) refl
 
 pub folder_is : (n : List ℕ) → name_fault n ≡ None → IsFolder (folder_of n) n
 folder_is n e = is_folder n (slash_first n e)

@@ -1,42 +1,30 @@
 -- The bytes of a path are text.
-use Rattle.std.proofs.Common.{◌≡◌, ℕ, ◌<◌, Bool, true, false, not, ◌&&◌, List, [], ◌∷◌, take, drop, refl, sym, ap, ◌∙◌, arith, take-append-drop, ◌-◌, length}
-use Rattle.std.specs.Prelude.{None, Result, Ok, Err, IsOk, MatchResult}
+use Rattle.std.proofs.Common.{◌≡◌, ℕ, ◌<◌, ◌≤◌, true, List, [], ◌∷◌, ◌++◌, take, drop, refl, sym, ap, ◌∙◌, arith, take-append-drop, ◌-◌, length}
+use Rattle.std.specs.Prelude.{Result, Ok, Err, IsOk, MatchResult}
 use Rattle.std.specs.List.{list_all}
 use Rattle.std.specs.Str.{IsAscii, IsUtf8}
 use Rattle.std.proofs.lemmas.List.Folds.{list_all-append}
 use Rattle.std.proofs.lemmas.List.{take_rest}
+use Rattle.std.proofs.lemmas.Bool.{and_parts}
 use Rattle.std.proofs.lemmas.Str.{IsUtf8-from_ascii}
 use Rattle.std.proofs.lemmas.Str.Ascii.{IsAscii-nil, IsAscii-cons}
-use Rattle.kl_base.specs.Names.{name_fault, is_path_byte}
-use Rattle.kl_base.proofs.Joined.{sound-none}
-
-pub not_false : (b : Bool) → not b ≡ false → b ≡ true
-not_false true e = refl
-not_false false e = cc
-
-pub both : (a b : Bool) → (a && b) ≡ true → (a ≡ true) × (b ≡ true)
-both true b e = (refl, e)
-both false b e = cc
-
--- the bytes of a name
-pub name_bytes : (n : List ℕ) → name_fault n ≡ None → list_all is_path_byte n ≡ true
-name_bytes n e = not_false _ (sound-none n e).bytes
+use Rattle.kl_base.specs.Names.{is_path_byte}
 
 -- some first ones of them, and those behind the first
 pub front_bytes : (i : ℕ) (n : List ℕ) → list_all is_path_byte n ≡ true → list_all is_path_byte (take i n) ≡ true
 front_bytes i n e =
-    (both (list_all is_path_byte (take i n)) (list_all is_path_byte (drop i n))
+    (and_parts (list_all is_path_byte (take i n)) (list_all is_path_byte (drop i n))
     (sym (list_all-append is_path_byte (take i n) (drop i n)) ∙ (ap (list_all is_path_byte) (take-append-drop i n) ∙ e))).0
 
 pub rest_bytes : (b : ℕ) (n : List ℕ) → list_all is_path_byte (b ∷ n) ≡ true → list_all is_path_byte n ≡ true
-rest_bytes b n e = (both (is_path_byte b) (list_all is_path_byte n) e).1
+rest_bytes b n e = (and_parts (is_path_byte b) (list_all is_path_byte n) e).1
 
 ascii_byte : (b : ℕ) → is_path_byte b ≡ true → b < 128
 ascii_byte b e = grind arith
 
 ascii : (n : List ℕ) → list_all is_path_byte n ≡ true → IsAscii n
 ascii [] e = IsAscii-nil
-ascii (b ∷ n) e = IsAscii-cons b n (ascii_byte b (both (is_path_byte b) (list_all is_path_byte n) e).0) (ascii n (rest_bytes b n e))
+ascii (b ∷ n) e = IsAscii-cons b n (ascii_byte b (and_parts (is_path_byte b) (list_all is_path_byte n) e).0) (ascii n (rest_bytes b n e))
 
 pub is_text : (n : List ℕ) → list_all is_path_byte n ≡ true → IsUtf8 n
 is_text n e = IsUtf8-from_ascii n (ascii n e)

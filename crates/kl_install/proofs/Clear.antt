@@ -2,10 +2,10 @@
 use Rattle.std.proofs.Common.{◌≡◌, ◌+◌, ◌⊎◌, ⊎_elim, ℕ, true, List, [], ◌∷◌, refl, ap, ◌∙◌}
 use Rattle.std.specs.Prelude.{Option, None, Result}
 use Rattle.std.specs.FinMap.{get}
+use Rattle.std.proofs.lemmas.Bool.{cond-true}
 use Rattle.kl_base.specs.declared.class.Slot.{Slot}
 use Rattle.kl_base.specs.declared.class.Slot.TheVariants.{Kernel, Libs}
 use Rattle.kl_store.specs.Names.{Names}
-use Rattle.kl_store.proofs.Branches.{cond_true}
 use Rattle.kl_intent.specs.declared.intent.Entry.{Entry}
 use Rattle.kl_intent.specs.IntentText.{slot_name}
 use Rattle.kl_intent.proofs.Grammar.{intent_again}
@@ -19,7 +19,7 @@ use Rattle.kl_install.proofs.Sounds.{is_sound_so}
 
 none_unsound : (m : Names) (es : List Entry) (n : ℕ) → Each (IsSound m) es → first_unsound m es n ≡ None
 none_unsound m [] n sound = refl
-none_unsound m (e ∷ es) n sound = cond_true (is_sound m e) (first_unsound m es (n + 1)) _ (is_sound_so m e sound.0) ∙ none_unsound m es (n + 1) sound.1
+none_unsound m (e ∷ es) n sound = cond-true (is_sound m e) (first_unsound m es (n + 1)) _ (is_sound_so m e sound.0) ∙ none_unsound m es (n + 1) sound.1
 
 own : (slot : Slot) → same_slot slot slot ≡ true
 own Kernel = refl
@@ -29,7 +29,7 @@ clear_intent : (slot : Slot) (es : List Entry) (x : Names) → Stands slot es x 
 clear_intent slot es x stands sound =
     ap (λ (file : Option (List ℕ)). is_clear (text_end slot x file)) stands.text
     ∙ ap (λ (r : Result (Slot × List Entry) ℕ). is_clear (read_end slot x r)) (intent_again slot es stands.are)
-    ∙ ap is_clear (cond_true (same_slot slot slot) (entries_end x es) (BadIntent 2) (own slot))
+    ∙ ap is_clear (cond-true (same_slot slot slot) (entries_end x es) (BadIntent 2) (own slot))
     ∙ ap (λ (u : Option Unsound). is_clear (checked_end es u)) (none_unsound x es 0 sound)
 
 pub clear_slot : (slot : Slot) (es : List Entry) (x : Names) → (get x (slot_name slot) ≡ None) ⊎ (Stands slot es x × Each (IsSound x) es) → is_clear (slot_end slot x) ≡ true

@@ -4,11 +4,12 @@ use Rattle.std.specs.Prelude.{Option, Some, None, Ok, Err, Result, option_map}
 use Rattle.std.specs.List.{list_all}
 use Rattle.std.specs.FinMap.{get, remove}
 use Rattle.sha2.specs.Sha256.{sha256}
+use Rattle.std.proofs.lemmas.Bool.{cond-true, cond-false}
 use Rattle.kl_base.specs.declared.class.Slot.{Slot}
 use Rattle.kl_base.specs.declared.class.Slot.TheVariants.{Kernel, Libs}
+use Rattle.kl_base.proofs.Bools.{true_false}
 use Rattle.kl_store.specs.Names.{Names, same_name}
 use Rattle.kl_store.proofs.NameMaps.{get-removed, same_refl, same_apart}
-use Rattle.kl_store.proofs.Branches.{cond_true, cond_false}
 use Rattle.kl_store.proofs.Disks.{some_or}
 use Rattle.kl_intent.specs.declared.intent.Entry.{Entry}
 use Rattle.kl_intent.specs.IntentText.{slot_name, intent_text, intent_read, entries_of}
@@ -34,8 +35,8 @@ use Rattle.kl_install.proofs.Redone.{all_sound, one_unsound, found_batch}
 -- a sound entry is new when its file has moved
 moved_new : (m : Names) (e : Entry) → IsSound m e → digest_at (moved e m) e.target ≡ Some e.new
 moved_new m e sound = ⊎_elim
-    (λ some. ap (λ (x : Names). digest_at x e.target) (cond_true (is_some (get m (temp_of e))) _ _ (ap is_some some.1)) ∙ ap (option_map sha256) (renamed_to m (temp_of e) e.target) ∙ waiting some.0 some.1 sound)
-    (λ none. ap (λ (x : Names). digest_at x e.target) (cond_false (is_some (get m (temp_of e))) _ _ (ap is_some none)) ∙ placed none sound)
+    (λ some. ap (λ (x : Names). digest_at x e.target) (cond-true (is_some (get m (temp_of e))) _ _ (ap is_some some.1)) ∙ ap (option_map sha256) (renamed_to m (temp_of e) e.target) ∙ waiting some.0 some.1 sound)
+    (λ none. ap (λ (x : Names). digest_at x e.target) (cond-false (is_some (get m (temp_of e))) _ _ (ap is_some none)) ∙ placed none sound)
     (some_or (get m (temp_of e)))
   where
     some_none : {P : Type 0} (x : List ℕ) → ◌≡◌ {A = Option (List ℕ)} None (Some x) → P
@@ -68,7 +69,7 @@ completed slot es m stands all =
     let named = is_batch slot es stands.are in
     let n = slot_name slot in
     let y = all_moved es m in
-    let at : (q : List ℕ) → q ≢ n → get (remove y n) q ≡ get y q = λ q p. get-removed y n q ∙ cond_false (same_name q n) _ _ (same_apart q n p) in
+    let at : (q : List ℕ) → q ≢ n → get (remove y n) q ≡ get y q = λ q p. get-removed y n q ∙ cond-false (same_name q n) _ _ (same_apart q n p) in
     record {
       entries = es;
       stands = stands;
@@ -76,7 +77,7 @@ completed slot es m stands all =
       count = refl;
       targets = each_map _ _ es (λ e h. ap (option_map sha256) (at e.target (turned _ _ h.0.0)) ∙ h.1) (each_both _ _ es named.slot_away (all_new es m named.apart (each_sound m es all)));
       temps = each_map _ _ es (λ e h. at (temp_of e) (turned _ _ h.0.1) ∙ h.1) (each_both _ _ es named.slot_away (all_gone es m named.apart));
-      free = get-removed y n n ∙ cond_true (same_name n n) _ _ (same_refl n);
+      free = get-removed y n n ∙ cond-true (same_name n n) _ _ (same_refl n);
       others = λ q p away. at q p ∙ all_moved_other es m q away;
     }
 
@@ -104,7 +105,7 @@ is_first m (x ∷ es) n u e = go (is_sound m x) refl (is_first m es (n + 1) u)
 
     go : (b : Bool) → is_sound m x ≡ b → (first_unsound m es (n + 1) ≡ Some u → IsFirst m es (n + 1) u) → IsFirst m (x ∷ es) n u
     go true is more =
-        let rest = more (sym (cond_true (is_sound m x) (first_unsound m es (n + 1)) (Some here) is) ∙ e) in
+        let rest = more (sym (cond-true (is_sound m x) (first_unsound m es (n + 1)) (Some here) is) ∙ e) in
         record {
           before = x ∷ rest.before;
           entry = rest.entry;
@@ -117,7 +118,7 @@ is_first m (x ∷ es) n u e = go (is_sound m x) refl (is_first m es (n + 1) u)
           temp = rest.temp;
         }
     go false is more =
-        let same : here ≡ u = same_unsound here u (sym (cond_false (is_sound m x) (first_unsound m es (n + 1)) (Some here) is) ∙ e) in
+        let same : here ≡ u = same_unsound here u (sym (cond-false (is_sound m x) (first_unsound m es (n + 1)) (Some here) is) ∙ e) in
         record {
           before = [];
           entry = x;
@@ -152,8 +153,8 @@ ends_of_entries slot es m stands = cases (first_unsound m es 0) refl
     cases : (o : Option Unsound) → first_unsound m es 0 ≡ o → Recovers slot (checked_end es (first_unsound m es 0)) m (after_entries slot m (Some es))
     cases None is =
         let all = all_sound m es 0 is in
-        rw (is) (subst (λ (x : Names). IsCompleted slot (length es) m x) (sym (cond_true (list_all (is_sound m) es) (remove (all_moved es m) (slot_name slot)) m all)) (completed slot es m stands all))
-    cases (Some u) is = rw (is) (foreign slot es m u stands is, cond_false (list_all (is_sound m) es) (remove (all_moved es m) (slot_name slot)) m (one_unsound m es 0 u is))
+        rw (is) (subst (λ (x : Names). IsCompleted slot (length es) m x) (sym (cond-true (list_all (is_sound m) es) (remove (all_moved es m) (slot_name slot)) m all)) (completed slot es m stands all))
+    cases (Some u) is = rw (is) (foreign slot es m u stands is, cond-false (list_all (is_sound m) es) (remove (all_moved es m) (slot_name slot)) m (one_unsound m es 0 u is))
 
 slots_same : (s t : Slot) → same_slot s t ≡ true → s ≡ t
 slots_same Kernel Kernel e = refl
@@ -164,9 +165,6 @@ slots_same Libs Libs e = refl
 slots_differ : (s t : Slot) → same_slot s t ≡ false → s ≢ t
 slots_differ s t differ is = true_false (sym (own t) ∙ ap (λ (q : Slot). same_slot q t) (sym is) ∙ differ)
   where
-    true_false : {P : Type 0} → true ≡ false → P
-    true_false p = cc
-
     own : (q : Slot) → same_slot q q ≡ true
     own Kernel = refl
     own Libs = refl

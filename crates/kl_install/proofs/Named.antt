@@ -5,16 +5,15 @@ use Rattle.std.specs.List.{ends_with, AllByRecursion}
 use Rattle.std.specs.Str.{bytes_eq}
 use Rattle.std.specs.Cmp.Lexicographic.{pointwise}
 use Rattle.std.proofs.lemmas.List.{append_cancel_right, drop_at}
-use Rattle.std.proofs.lemmas.Slice.Eq.{bytes_eq-Decides}
-use Rattle.std.proofs.lemmas.Bool.{leb-true}
+use Rattle.std.proofs.lemmas.Bool.{leb-true, not-true}
 use Rattle.kl_base.specs.Names.{name_fault}
 use Rattle.kl_base.specs.declared.class.Slot.{Slot}
 use Rattle.kl_base.specs.declared.class.Slot.TheVariants.{Kernel, Libs}
 use Rattle.kl_store.specs.Names.{is_scratch}
+use Rattle.kl_base.proofs.Bools.{and_left, and_right, true_false, same_bytes}
 use Rattle.kl_intent.specs.declared.intent.Entry.{Entry}
 use Rattle.kl_intent.specs.IntentText.{slot_name, intent_text, is_target, is_new, AreDistinct, IsEntry, AreEntries}
 use Rattle.kl_intent.proofs.Grammar.{intent_again}
-use Rattle.kl_intent.proofs.Cuts.{and_left, and_right, not_true}
 use Rattle.kl_install.specs.After.{temp_name, temp_of, entries_for, entries_in}
 use Rattle.kl_install.specs.Batch.{Batch, batch, intent_name, intent_temp, Each, IsAway, AreApart}
 
@@ -32,18 +31,12 @@ pub record IsBatch (b : Batch) : Type 0 where
 suffix : List ℕ
 suffix = codes ".relink"
 
-same_codes : (t : List ℕ) → pointwise nat_eq t t ≡ true
-same_codes t = (bytes_eq-Decides t t).1 refl
-
 -- a temporary is a scratch name
 pub temp_scratch : (name : List ℕ) → is_scratch (temp_name name) ≡ true
 temp_scratch name =
     let s = codes ".relink" in
     let size : length (name ++ s) - length s ≡ length name = omega (arith, length-append name s) in
-    ap (λ (n : ℕ). pointwise nat_eq s (drop n (name ++ s))) size ∙ ap (pointwise nat_eq s) (drop_at name s (length name) refl) ∙ same_codes s
-
-true_false : {P : Type 0} → true ≡ false → P
-true_false e = cc
+    ap (λ (n : ℕ). pointwise nat_eq s (drop n (name ++ s))) size ∙ ap (pointwise nat_eq s) (drop_at name s (length name) refl) ∙ same_bytes s
 
 pub plain_apart : (n p : List ℕ) → is_scratch n ≡ false → is_scratch p ≡ true → n ≢ p
 plain_apart n p plain scratch e = true_false (sym scratch ∙ ap is_scratch (sym e) ∙ plain)
@@ -75,7 +68,7 @@ is_target_parts t is =
     record {
       fault = and_left (is_none (name_fault t)) (n && (s && (k && l))) is;
       short = and_left n (s && (k && l)) one;
-      plain = not_true (is_scratch t) (and_left s (k && l) two);
+      plain = not-true (is_scratch t) (and_left s (k && l) two);
       kernel = and_left k l three;
       libs = and_right k l three;
     }
@@ -84,7 +77,7 @@ pub target_plain : (t : List ℕ) → is_target t ≡ true → is_scratch t ≡ 
 target_plain t is = (is_target_parts t is).plain
 
 pub differs : (a b : List ℕ) → not (bytes_eq a b) ≡ true → a ≢ b
-differs a b no_eq same = true_false (sym (ap (bytes_eq a) (sym same) ∙ same_codes a) ∙ not_true (bytes_eq a b) no_eq)
+differs a b no_eq same = true_false (sym (ap (bytes_eq a) (sym same) ∙ same_bytes a) ∙ not-true (bytes_eq a b) no_eq)
 
 pub target_no_slot : (t : List ℕ) (s : Slot) → is_target t ≡ true → slot_name s ≢ t
 target_no_slot t Kernel is same = differs t (slot_name Kernel) (is_target_parts t is).kernel (sym same)

@@ -3,10 +3,10 @@ use Rattle.std.proofs.Common.{◌≡◌, ◌≢◌, inl, inr, ◌⊎◌, ⊎_eli
 use Rattle.std.specs.Prelude.{Some, None, option_map}
 use Rattle.std.specs.List.{list_all}
 use Rattle.std.specs.FinMap.{get, remove}
+use Rattle.std.proofs.lemmas.Bool.{cond-true, cond-false, cases_Bool}
 use Rattle.kl_store.specs.Names.{Names, same_name, Rename, carried_out}
 use Rattle.kl_store.proofs.NameMaps.{same_refl, same_eq, same_apart, get-renamed, get-removed}
-use Rattle.kl_store.proofs.Branches.{cond_true, cond_false, either}
-use Rattle.kl_store.proofs.Disks.{true_false}
+use Rattle.kl_base.proofs.Bools.{true_false}
 use Rattle.kl_base.specs.declared.class.Slot.{Slot}
 use Rattle.kl_intent.specs.IntentText.{slot_name, intent_text}
 use Rattle.kl_install.proofs.Named.{IsBatch, plain_apart}
@@ -33,19 +33,19 @@ each_all P (e ∷ es) f = (f e, each_all P es f)
 
 -- a rename away from other names
 pub renamed_other : (x : Names) (a b n : List ℕ) → n ≢ a → n ≢ b → get (carried_out (Rename a b) x) n ≡ get x n
-renamed_other x a b n p q = get-renamed x a b n ∙ cond_false (same_name n b) _ _ (same_apart n b q) ∙ cond_false (same_name n a) _ _ (same_apart n a p)
+renamed_other x a b n p q = get-renamed x a b n ∙ cond-false (same_name n b) _ _ (same_apart n b q) ∙ cond-false (same_name n a) _ _ (same_apart n a p)
 
 pub renamed_to : (x : Names) (a b : List ℕ) → get (carried_out (Rename a b) x) b ≡ get x a
-renamed_to x a b = get-renamed x a b b ∙ cond_true (same_name b b) _ _ (same_refl b)
+renamed_to x a b = get-renamed x a b b ∙ cond-true (same_name b b) _ _ (same_refl b)
 
 pub renamed_from : (x : Names) (a b : List ℕ) → a ≢ b → get (carried_out (Rename a b) x) a ≡ None
-renamed_from x a b p = get-renamed x a b a ∙ cond_false (same_name a b) _ _ (same_apart a b p) ∙ cond_true (same_name a a) _ _ (same_refl a)
+renamed_from x a b p = get-renamed x a b a ∙ cond-false (same_name a b) _ _ (same_apart a b p) ∙ cond-true (same_name a a) _ _ (same_refl a)
 
 pub moved_other : (e : Entry) (x : Names) (n : List ℕ) → n ≢ e.target → n ≢ (temp_of e) → get (moved e x) n ≡ get x n
 moved_other e x n p q = ⊎_elim
-    (λ is. ap (λ (y : Names). get y n) (cond_true (is_some (get x (temp_of e))) _ _ is) ∙ renamed_other x (temp_of e) e.target n q p)
-    (λ none. ap (λ (y : Names). get y n) (cond_false (is_some (get x (temp_of e))) _ _ none))
-    (either (is_some (get x (temp_of e))))
+    (λ is. ap (λ (y : Names). get y n) (cond-true (is_some (get x (temp_of e))) _ _ is) ∙ renamed_other x (temp_of e) e.target n q p)
+    (λ none. ap (λ (y : Names). get y n) (cond-false (is_some (get x (temp_of e))) _ _ none))
+    (cases_Bool (is_some (get x (temp_of e))))
 
 pub all_moved_other : (es : List Entry) (x : Names) (n : List ℕ) → IsAway n es → get (all_moved es x) n ≡ get x n
 all_moved_other [] x n away = refl
@@ -53,8 +53,8 @@ all_moved_other (e ∷ es) x n away = all_moved_other es (moved e x) n away.1 �
 
 -- what is placed stays, and what waits is placed
 moved_here : (m : Names) (e : Entry) (x : Names) → IsReady m e → IsPlaced m x e ⊎ IsWaiting m x e → get (moved e x) e.target ≡ get m (temp_of e)
-moved_here m e x ready (inl placed) = ap (λ (y : Names). get y e.target) (cond_false (is_some (get x (temp_of e))) _ _ (ap is_some placed.1)) ∙ placed.0
-moved_here m e x ready (inr waits) = ap (λ (y : Names). get y e.target) (cond_true (is_some (get x (temp_of e))) _ _ (ap is_some (waits.1 ∙ ready.waits))) ∙ renamed_to x (temp_of e) e.target ∙ waits.1
+moved_here m e x ready (inl placed) = ap (λ (y : Names). get y e.target) (cond-false (is_some (get x (temp_of e))) _ _ (ap is_some placed.1)) ∙ placed.0
+moved_here m e x ready (inr waits) = ap (λ (y : Names). get y e.target) (cond-true (is_some (get x (temp_of e))) _ _ (ap is_some (waits.1 ∙ ready.waits))) ∙ renamed_to x (temp_of e) e.target ∙ waits.1
 
 -- the states of entries whose names a change leaves
 pub states_kept : (m x y : Names) (es : List Entry) → Each (λ e. (get y e.target ≡ get x e.target) × (get y (temp_of e) ≡ get x (temp_of e))) es
@@ -95,7 +95,7 @@ pub after_none : (slot : Slot) (x : Names) → get x (slot_name slot) ≡ None �
 after_none slot x e = ap (after_text slot x) e
 
 pub after_sound : (slot : Slot) (text : List ℕ) (x : Names) (es : List Entry) → get x (slot_name slot) ≡ Some text → entries_in slot text ≡ Some es → list_all (is_sound x) es ≡ true → after slot x ≡ remove (all_moved es x) (slot_name slot)
-after_sound slot text x es stands reads sound = ap (after_text slot x) stands ∙ ap (after_entries slot x) reads ∙ cond_true (list_all (is_sound x) es) _ _ sound
+after_sound slot text x es stands reads sound = ap (after_text slot x) stands ∙ ap (after_entries slot x) reads ∙ cond-true (list_all (is_sound x) es) _ _ sound
 
 -- a plain name that is no target is away from the entries
 pub plain_away : (n : List ℕ) (es : List Entry) → is_scratch n ≡ false → Each (λ e. (is_scratch e.target ≡ false) × (is_scratch (temp_of e) ≡ true)) es → Each (λ e. n ≢ e.target) es → IsAway n es
@@ -126,17 +126,17 @@ moving_new b m x fits stands states others =
     let sound : Each (IsSound x) b.entries = each_map _ _ b.entries (λ e h. sound_entry m x e h.0 h.1) (each_both _ _ b.entries fits.ready states) in
     let end : after b.slot x ≡ remove (all_moved b.entries x) (intent_name b) = after_sound b.slot (intent_text b.slot b.entries) x b.entries stands fits.batch.intent (all_sound_so x b.entries sound) in
     let at : (n : List ℕ) → n ≢ (intent_name b) → get (after b.slot x) n ≡ get (all_moved b.entries x) n =
-    λ n p. ap (λ (y : Names). get y n) end ∙ get-removed (all_moved b.entries x) (intent_name b) n ∙ cond_false (same_name n (intent_name b)) _ _ (same_apart n (intent_name b) p) in
+    λ n p. ap (λ (y : Names). get y n) end ∙ get-removed (all_moved b.entries x) (intent_name b) n ∙ cond-false (same_name n (intent_name b)) _ _ (same_apart n (intent_name b) p) in
     let targets : Each (λ e. get (after b.slot x) e.target ≡ get m (temp_of e)) b.entries =
     each_map _ _ b.entries (λ e h. at e.target (turned _ _ h.0.0) ∙ h.1) (each_both _ _ b.entries fits.batch.slot_away (all_moved_targets m b.entries x fits.batch.apart fits.ready states)) in
     record {
       targets = inr targets;
       others = λ n plain no. ⊎_elim
-          (λ is. ap (λ (y : Names). get y n) end ∙ get-removed (all_moved b.entries x) (intent_name b) n ∙ cond_true (same_name n (intent_name b)) _ _ is ∙ sym fits.free ∙ ap (λ (q : List ℕ). get m q) (sym (same_eq n (intent_name b) is)))
+          (λ is. ap (λ (y : Names). get y n) end ∙ get-removed (all_moved b.entries x) (intent_name b) n ∙ cond-true (same_name n (intent_name b)) _ _ is ∙ sym fits.free ∙ ap (λ (q : List ℕ). get m q) (sym (same_eq n (intent_name b) is)))
           (λ other. let away = plain_away n b.entries plain fits.batch.targets no in
           let apart : n ≢ (intent_name b) = λ e. true_false (sym (ap (λ (q : List ℕ). same_name q (intent_name b)) e ∙ same_refl (intent_name b)) ∙ other) in
           at n apart ∙ all_moved_other b.entries x n away ∙ others n apart (plain_apart n (intent_temp b) plain fits.batch.scratch) away)
-          (either (same_name n (intent_name b)));
+          (cases_Bool (same_name n (intent_name b)));
       whole = each_map _ _ b.entries (λ e h. ⊎_elim (λ placed. inr (placed.0 ∙ sym h.1)) (λ waits. inl waits.0) h.0) (each_both _ _ b.entries states targets);
       elsewhere = λ n plain slot no. others n slot (plain_apart n (intent_temp b) plain fits.batch.scratch) (plain_away n b.entries plain fits.batch.targets no);
       slot = inr (record { are = fits.batch.are; text = stands }, sound);
@@ -151,7 +151,7 @@ done_new b m x fits done =
       others = λ n plain no. ap (λ (y : Names). get y n) same ∙ ⊎_elim
           (λ is. ap (λ (q : List ℕ). get x q) (same_eq n (intent_name b) is) ∙ done.slot ∙ sym fits.free ∙ ap (λ (q : List ℕ). get m q) (sym (same_eq n (intent_name b) is)))
           (λ other. done.others n (λ e. true_false (sym (ap (λ (q : List ℕ). same_name q (intent_name b)) e ∙ same_refl (intent_name b)) ∙ other)) (plain_apart n (intent_temp b) plain fits.batch.scratch) (plain_away n b.entries plain fits.batch.targets no))
-          (either (same_name n (intent_name b)));
+          (cases_Bool (same_name n (intent_name b)));
       whole = each_map _ _ b.entries (λ e h. inr (ap (λ (y : Names). get y e.target) (sym same))) done.targets;
       elsewhere = λ n plain slot no. done.others n slot (plain_apart n (intent_temp b) plain fits.batch.scratch) (plain_away n b.entries plain fits.batch.targets no);
       slot = inl done.slot;

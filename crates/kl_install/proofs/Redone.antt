@@ -4,7 +4,7 @@ use Rattle.std.specs.Prelude.{Option, Some, None, Ok, Err, Result, option_map, I
 use Rattle.std.specs.List.{list_all}
 use Rattle.std.specs.FinMap.{get, remove}
 use Rattle.std.proofs.lemmas.List.{take_more, take_all}
-use Rattle.std.proofs.lemmas.Bool.{lt-ltb}
+use Rattle.std.proofs.lemmas.Bool.{lt-ltb, cases_Bool, cond-true, cond-false}
 use Rattle.sha2.specs.Sha256.{sha256}
 use Rattle.kl_base.specs.declared.class.Slot.{Slot}
 use Rattle.kl_base.specs.declared.class.Slot.TheVariants.{Kernel, Libs}
@@ -12,7 +12,6 @@ use Rattle.kl_store.specs.Names.{Names, Change, Rename, same_name, carried_out, 
 use Rattle.kl_store.specs.Disk.{Disk, names_now, joined, AreMoves}
 use Rattle.kl_store.specs.Meaning.{Meaning}
 use Rattle.kl_store.specs.Calls.{MakesIf}
-use Rattle.kl_store.proofs.Branches.{either, cond_true, cond_false}
 use Rattle.kl_store.proofs.Disks.{moves_append, names_now-joined}
 use Rattle.kl_store.proofs.Moments.{told_joined, told_names}
 use Rattle.kl_intent.specs.declared.intent.Entry.{Entry}
@@ -26,7 +25,7 @@ use Rattle.kl_install.specs.Batch.{Each, IsAway, AreApart}
 use Rattle.kl_install.proofs.Named.{is_batch, turned}
 use Rattle.kl_install.proofs.Recovered.{each_map, each_both, each_all, all_moved_other, after_sound, after_none}
 use Rattle.kl_install.proofs.Moves.{each_append, each_front, each_back}
-use Rattle.kl_intent.proofs.Cuts.{and_left, and_right}
+use Rattle.kl_base.proofs.Bools.{and_left, and_right}
 use Rattle.kl_store.proofs.NameMaps.{get-removed, same_refl}
 use Rattle.kl_install.specs.Recovery.{first_unsound, IsPartMoved}
 use Rattle.kl_install.specs.Finding.{IsFound, HasIntentOf, wrong_line}
@@ -36,7 +35,7 @@ use Rattle.kl_install.proofs.Again.{all_moved-append, moved_again, sound_on, sou
 pub unsound_step : (m : Names) (es : List Entry) (i : ℕ) (e : Entry) → i < length es → e ≡ get_or es i e → is_sound m e ≡ true → first_unsound m (drop i es) i ≡ first_unsound m (drop (i + 1) es) (i + 1)
 unsound_step m es i e less is sound =
     ap (λ (l : List Entry). first_unsound m l i) (drop-cons es i e less ∙ ap (λ (f : Entry). f ∷ drop (suc i) es) (sym is))
-    ∙ cond_true (is_sound m e) (first_unsound m (drop (suc i) es) (i + 1)) _ sound ∙ ap (λ (k : ℕ). first_unsound m (drop k es) (i + 1)) (sym (add-one i))
+    ∙ cond-true (is_sound m e) (first_unsound m (drop (suc i) es) (i + 1)) _ sound ∙ ap (λ (k : ℕ). first_unsound m (drop k es) (i + 1)) (sym (add-one i))
 
 pub sound_found : (m : Names) (e : Entry) (temp : List ℕ) (one two : Option (List ℕ)) (b : Bool) → temp ≡ temp_name e.target → one ≡ option_map sha256 (get m e.target) → two ≡ option_map sha256 (get m temp) → b ≡ is_sound_of e one two → b ≡ true → is_sound m e ≡ true
 sound_found m e temp one two b name is it found yes_it =
@@ -44,7 +43,7 @@ sound_found m e temp one two b name is it found yes_it =
 
 too_long : (bytes : List ℕ) → 4096 < length bytes → intent_read bytes ≡ Err 0
 unfolding intent_read
-too_long bytes long = cond_true (nat_lt 4096 (length bytes)) (Err 0) _ (lt-ltb 4096 (length bytes) long)
+too_long bytes long = cond-true (nat_lt 4096 (length bytes)) (Err 0) _ (lt-ltb 4096 (length bytes) long)
 
 pub long_found : (slot : Slot) (file : Option (List ℕ)) (size : ℕ) → 4096 < size → Some size ≡ option_map length file → IsFound slot (Bad 0) file
 long_found slot None size long is = let no : ◌≡◌ {A = Option ℕ} (Some size) None = is in cc
@@ -67,10 +66,10 @@ more_moved : (m : Names) (es : List Entry) (i : ℕ) (e : Entry) → i < length 
 more_moved m es i e less is = ap (λ (l : List Entry). all_moved l m) (take_more es i e less ∙ ap (λ (f : Entry). take i es ++ f ∷ []) (sym is)) ∙ all_moved-append (take i es) (e ∷ []) m
 
 moved_there : (e : Entry) (x : Names) → IsSome (get x (temp_of e)) → moved e x ≡ carried_out (Rename (temp_of e) e.target) x
-moved_there e x there = cond_true (is_some (get x (temp_of e))) _ _ there
+moved_there e x there = cond-true (is_some (get x (temp_of e))) _ _ there
 
 moved_none : (e : Entry) (x : Names) → (IsSome (get x (temp_of e)) → ⊥) → moved e x ≡ x
-moved_none e x none = ⊎_elim (λ some. absurd (none some)) (λ gone. cond_false (is_some (get x (temp_of e))) _ _ gone) (either (is_some (get x (temp_of e))))
+moved_none e x none = ⊎_elim (λ some. absurd (none some)) (λ gone. cond-false (is_some (get x (temp_of e))) _ _ gone) (cases_Bool (is_some (get x (temp_of e))))
 
 pub part_moved : (m x : Names) (es : List Entry) (i : ℕ) (e : Entry) → i < length es → e ≡ get_or es i e → x ≡ all_moved (take i es) m → IsSome (get x (temp_of e)) → IsPartMoved es m (carried_out (Rename (temp_of e) e.target) x)
 part_moved m x es i e less is names there = record {
@@ -131,7 +130,7 @@ entries_read slot text es is = ap (entries_for slot) is ∙ same_slots slot es
 -- what recovery leaves of names with the intent, where an entry isn't sound
 pub foreign_after : (slot : Slot) (es : List Entry) (d : Disk) (u : Unsound) → HasIntentOf slot es d → first_unsound (names_now d) es 0 ≡ Some u → after slot (names_now d) ≡ names_now d
 foreign_after slot es d u has is =
-    ap (after_text slot (names_now d)) has.stands ∙ ap (after_entries slot (names_now d)) (entries_read slot has.text es has.read) ∙ cond_false (list_all (is_sound (names_now d)) es) _ _ (one_unsound (names_now d) es 0 u is)
+    ap (after_text slot (names_now d)) has.stands ∙ ap (after_entries slot (names_now d)) (entries_read slot has.text es has.read) ∙ cond-false (list_all (is_sound (names_now d)) es) _ _ (one_unsound (names_now d) es 0 u is)
 
 -- and where all are
 pub sound_after : (slot : Slot) (es : List Entry) (d : Disk) → HasIntentOf slot es d → first_unsound (names_now d) es 0 ≡ None → after slot (names_now d) ≡ remove (all_moved es (names_now d)) (slot_name slot)
@@ -177,7 +176,7 @@ pub removed_after : (slot : Slot) (es : List Entry) (d : Disk) (x : Names) → H
 removed_after slot es d x has none is =
     let n = slot_name slot in
     let y = all_moved es (names_now d) in
-    let gone : get (remove y n) n ≡ None = get-removed y n n ∙ cond_true (same_name n n) _ _ (same_refl n) in
+    let gone : get (remove y n) n ≡ None = get-removed y n n ∙ cond-true (same_name n n) _ _ (same_refl n) in
     ap (after slot) is ∙ after_none slot (remove y n) gone ∙ sym (sound_after slot es d has none)
 
 -- a settled disk is that of its names
@@ -207,8 +206,8 @@ no_entries slot line (Err n) e = refl
 no_entries slot line (Ok read) e = cases (same_slot read.0 slot) refl
   where
     cases : (b : Bool) → same_slot read.0 slot ≡ b → entries_for slot (Ok read) ≡ None
-    cases true is = let no : ◌≡◌ {A = Option ℕ} None (Some line) = sym (cond_true (same_slot read.0 slot) None (Some 2) is) ∙ e in cc
-    cases false is = cond_false (same_slot read.0 slot) (Some read.1) None is
+    cases true is = let no : ◌≡◌ {A = Option ℕ} None (Some line) = sym (cond-true (same_slot read.0 slot) None (Some 2) is) ∙ e in cc
+    cases false is = cond-false (same_slot read.0 slot) (Some read.1) None is
 
 bad_text : (slot : Slot) (line : ℕ) (m : Names) (file : Option (List ℕ)) → IsFound slot (Bad line) file → after_text slot m file ≡ m
 unfolding entries_in

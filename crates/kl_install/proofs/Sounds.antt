@@ -1,13 +1,14 @@
 -- The test of an entry decides whether it is sound.
-use Rattle.std.proofs.Common.{◌≡◌, inl, inr, ◌⊎◌, ⊎_elim, Bool, true, false, ◌&&◌, ◌||◌, ℕ, List, [], ◌∷◌, refl, sym, ap, ◌∙◌}
+use Rattle.std.proofs.Common.{◌≡◌, inl, inr, ◌⊎◌, ⊎_elim, true, false, ◌&&◌, ◌||◌, ℕ, List, [], ◌∷◌, refl, sym, ap, ◌∙◌}
 use Rattle.std.specs.Prelude.{Option, Some, None, option_map, is_none}
 use Rattle.std.specs.List.{list_all}
 use Rattle.std.specs.FinMap.{get}
 use Rattle.std.proofs.lemmas.Slice.Eq.{bytes_eq-Decides}
+use Rattle.std.proofs.lemmas.Bool.{and_from, or_left, or_right, or_cases}
 use Rattle.sha2.specs.Sha256.{sha256}
+use Rattle.kl_base.proofs.Bools.{and_left, and_right, true_false}
 use Rattle.kl_store.specs.Names.{Names}
 use Rattle.kl_intent.specs.declared.intent.Entry.{Entry}
-use Rattle.kl_intent.proofs.Cuts.{and_left, and_right}
 use Rattle.kl_install.specs.After.{digest_at, same_digest, is_sound, temp_of}
 use Rattle.kl_install.specs.Standing.{IsSound}
 use Rattle.kl_install.specs.Batch.{Each}
@@ -27,23 +28,9 @@ same_digests None (Some b) e = cc
 same_digests (Some a) None e = cc
 same_digests (Some a) (Some b) e = ap (λ (l : List ℕ). Some l) ((bytes_eq-Decides a b).0 e)
 
-pub both_true : (a b : Bool) → a ≡ true → b ≡ true → (a && b) ≡ true
-both_true a b p q = ap (λ v. v && b) p ∙ q
-
-pub first_true : (a b : Bool) → a ≡ true → (a || b) ≡ true
-first_true a b p = ap (λ v. v || b) p
-
-second_true : (a b : Bool) → b ≡ true → (a || b) ≡ true
-second_true true b p = refl
-second_true false b p = p
-
-or_either : (a b : Bool) → (a || b) ≡ true → (a ≡ true) ⊎ (b ≡ true)
-or_either true b e = inl refl
-or_either false b e = inr e
-
-none_is : (o : Option (List ℕ)) → is_none (option_map sha256 o) ≡ true → o ≡ None
-none_is None e = refl
-none_is (Some b) e = cc
+no_file : (o : Option (List ℕ)) → is_none (option_map sha256 o) ≡ true → o ≡ None
+no_file None e = refl
+no_file (Some b) e = cc
 
 pub sound_is : (m : Names) (e : Entry) → is_sound m e ≡ true → IsSound m e
 sound_is m e is =
@@ -56,23 +43,20 @@ sound_is m e is =
     ⊎_elim
     (λ (p : (new && left) ≡ true). inl (record {
       target = same_digests target (Some e.new) (and_left new left p);
-      temp = ⊎_elim (λ none. inl (none_is (get m (temp_of e)) none)) (λ some. inr (same_digests temp (Some e.new) some)) (or_either (is_none temp) waits (and_right new left p));
+      temp = ⊎_elim (λ none. inl (no_file (get m (temp_of e)) none)) (λ some. inr (same_digests temp (Some e.new) some)) (or_cases (is_none temp) waits (and_right new left p));
     }))
     (λ (p : (old && waits) ≡ true). inr (record { target = same_digests target e.old (and_left old waits p); temp = same_digests temp (Some e.new) (and_right old waits p) }))
-    (or_either (new && left) (old && waits) is)
+    (or_cases (new && left) (old && waits) is)
 
 pub is_sound_so : (m : Names) (e : Entry) → IsSound m e → is_sound m e ≡ true
-is_sound_so m e (inl new) = first_true _ _ (both_true _ _ (digests_same (digest_at m e.target) (Some e.new) new.target)
+is_sound_so m e (inl new) = or_left _ _ (and_from _ _ (digests_same (digest_at m e.target) (Some e.new) new.target)
     (⊎_elim
-    (λ none. first_true (is_none (digest_at m (temp_of e))) _ (ap (λ (o : Option (List ℕ)). is_none (option_map sha256 o)) none))
-    (λ some. second_true (is_none (digest_at m (temp_of e))) _ (digests_same (digest_at m (temp_of e)) (Some e.new) some)) new.temp))
-is_sound_so m e (inr old) = second_true _ _ (both_true _ _ (digests_same (digest_at m e.target) e.old old.target) (digests_same (digest_at m (temp_of e)) (Some e.new) old.temp))
+    (λ none. or_left (is_none (digest_at m (temp_of e))) _ (ap (λ (o : Option (List ℕ)). is_none (option_map sha256 o)) none))
+    (λ some. or_right (is_none (digest_at m (temp_of e))) _ (digests_same (digest_at m (temp_of e)) (Some e.new) some)) new.temp))
+is_sound_so m e (inr old) = or_right _ _ (and_from _ _ (digests_same (digest_at m e.target) e.old old.target) (digests_same (digest_at m (temp_of e)) (Some e.new) old.temp))
 
 pub is_unsound : (m : Names) (e : Entry) → is_sound m e ≡ false → ¬ IsSound m e
 is_unsound m e fails sound = true_false (sym (is_sound_so m e sound) ∙ fails)
-  where
-    true_false : {P : Type 0} → true ≡ false → P
-    true_false p = cc
 
 pub each_sound : (m : Names) (es : List Entry) → list_all (is_sound m) es ≡ true → Each (IsSound m) es
 each_sound m [] e = tt
@@ -80,4 +64,4 @@ each_sound m (x ∷ es) e = (sound_is m x (and_left (is_sound m x) (list_all (is
 
 pub all_sound_so : (m : Names) (es : List Entry) → Each (IsSound m) es → list_all (is_sound m) es ≡ true
 all_sound_so m [] sound = refl
-all_sound_so m (e ∷ es) sound = both_true _ _ (is_sound_so m e sound.0) (all_sound_so m es sound.1)
+all_sound_so m (e ∷ es) sound = and_from _ _ (is_sound_so m e sound.0) (all_sound_so m es sound.1)

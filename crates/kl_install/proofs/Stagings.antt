@@ -25,7 +25,7 @@ use Rattle.kl_install.specs.Staging.{IsReadyDisk, Waits, AllQuiet, CanGoOn, Stag
 use Rattle.kl_store.specs.Files.{HasFiles, IsWritten}
 use Rattle.kl_store.proofs.KeptNames.{scratch_files}
 use Rattle.kl_install.proofs.Named.{plain_apart, temps_apart, temp_scratch, target_plain, slot_plain, differs}
-use Rattle.kl_intent.proofs.Cuts.{and_left, and_right}
+use Rattle.kl_base.proofs.Bools.{and_left, and_right}
 
 -- what is new since a first settle has the files of the names
 pub quiet_then : {x y z w : Meaning} → LeavesOfDisk x y Nothing → ForSome x.disk (λ d. IsReadyDisk (names_now d) y.disk) → Stays y z → LeavesOfDisk z w HasFiles → Leaves x w SameNames

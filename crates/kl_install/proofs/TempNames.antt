@@ -3,17 +3,13 @@ use Rattle.std.proofs.Common.{◌≡◌, ◌≤◌, ◌==◌, ℕ, Bool, true, f
 use Rattle.std.specs.Prelude.{Option, Some, None, Result, Ok, Err, IfErr, IsOk, codes}
 use Rattle.kl_base.specs.declared.name.NameFault.{NameFault}
 use Rattle.std.specs.List.{list_all}
-use Rattle.std.proofs.lemmas.Bool.{le-ltb, ne_eqb}
+use Rattle.std.proofs.lemmas.Bool.{le-ltb, ne_eqb, or_parts, not-false}
 use Rattle.kl_base.specs.Names.{name_fault, any_suffix, slash_then, ends_part, dots, is_path_byte}
 use Rattle.kl_base.proofs.Joined.{IsSound, sound-none, none-sound}
 use Rattle.kl_install.specs.After.{temp_name}
 
 suffix : List ℕ
 suffix = codes ".relink"
-
-or_false : (a b : Bool) → (a || b) ≡ false → (a ≡ false) × (b ≡ false)
-or_false true b e = cc
-or_false false b e = (refl, e)
 
 and_no : (a : Bool) → (a && false) ≡ false
 and_no true = refl
@@ -35,7 +31,7 @@ no_end b (c ∷ n) e = e
 parts : (n : List ℕ) → any_suffix (slash_then ends_part) n ≡ false → any_suffix (slash_then ends_part) (n ++ codes ".relink") ≡ false
 parts [] e = refl
 parts (b ∷ n) e =
-    let both = or_false ((b == 47) && ends_part n) (any_suffix (slash_then ends_part) n) e in
+    let both = or_parts ((b == 47) && ends_part n) (any_suffix (slash_then ends_part) n) e in
     rw (no_end b n both.0, parts n both.1) refl
 
 no_dots : (b : ℕ) (n : List ℕ) → ((b == 47) && dots n) ≡ false → ((b == 47) && dots (n ++ codes ".relink")) ≡ false
@@ -58,12 +54,8 @@ no_dots b (a ∷ c ∷ d ∷ n) e = e
 no_dot_parts : (n : List ℕ) → any_suffix (slash_then dots) n ≡ false → any_suffix (slash_then dots) (n ++ codes ".relink") ≡ false
 no_dot_parts [] e = refl
 no_dot_parts (b ∷ n) e =
-    let both = or_false ((b == 47) && dots n) (any_suffix (slash_then dots) n) e in
+    let both = or_parts ((b == 47) && dots n) (any_suffix (slash_then dots) n) e in
     rw (no_dots b n both.0, no_dot_parts n both.1) refl
-
-not_false : (b : Bool) → not b ≡ false → b ≡ true
-not_false true e = refl
-not_false false e = cc
 
 sound : (n : List ℕ) → length n ≤ 248 → IsSound n → IsSound (temp_name n)
 sound [] short s = let no = s.empty in cc
@@ -71,7 +63,7 @@ sound (b ∷ n) short s = record {
   empty = ne_eqb (length (temp_name (b ∷ n))) 0 (λ e. absurd (omega (arith, e)));
   long = le-ltb 255 (length (temp_name (b ∷ n))) (omega (arith, short, length-append (b ∷ n) (codes ".relink")));
   absolute = s.absolute;
-  bytes = ap not (all_bytes (b ∷ n) (not_false (list_all is_path_byte (b ∷ n)) s.bytes));
+  bytes = ap not (all_bytes (b ∷ n) (not-false (list_all is_path_byte (b ∷ n)) s.bytes));
   parts = parts (b ∷ n) s.parts;
   dot = no_dot_parts (b ∷ n) s.dot;
 }

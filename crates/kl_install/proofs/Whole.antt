@@ -2,10 +2,10 @@
 use Rattle.std.proofs.Common.{◌≡◌, ◌≢◌, inl, inr, ◌⊎◌, ⊎_elim, ℕ, true, List, [], ◌∷◌, refl, sym, ap, ◌∙◌, is_some, IsSome, subst}
 use Rattle.std.specs.Prelude.{Some, Result, OnOk}
 use Rattle.std.specs.FinMap.{get, remove}
+use Rattle.std.proofs.lemmas.Bool.{cond-true, cond-false}
 use Rattle.kl_store.specs.Names.{Names, same_name, Create, Append}
 use Rattle.kl_store.specs.Disk.{Disk, names_now, joined, without, IsImage, IsNear}
 use Rattle.kl_store.proofs.NameMaps.{same_refl, same_apart, get-removed}
-use Rattle.kl_store.proofs.Branches.{cond_true, cond_false}
 use Rattle.kl_store.proofs.Disks.{near_written}
 use Rattle.kl_intent.specs.IntentText.{intent_text}
 use Rattle.kl_install.specs.After.{temp_of}
@@ -64,12 +64,12 @@ slot_stays b m y z named intent moved = ap is_some (moved.others (intent_name b)
 
 pub all_done : (b : Batch) (m y z : Names) → IsBatch b → HasIntent (intent_name b) (intent_temp b) (intent_text b.slot b.entries) m y → AreMoved b.entries y z → IsDone b m (remove z (intent_name b))
 all_done b m y z named intent moved =
-    let at : (n : List ℕ) → n ≢ (intent_name b) → get (remove z (intent_name b)) n ≡ get z n = λ n p. get-removed z (intent_name b) n ∙ cond_false (same_name n (intent_name b)) _ _ (same_apart n (intent_name b) p) in
+    let at : (n : List ℕ) → n ≢ (intent_name b) → get (remove z (intent_name b)) n ≡ get z n = λ n p. get-removed z (intent_name b) n ∙ cond-false (same_name n (intent_name b)) _ _ (same_apart n (intent_name b) p) in
     let parts = each_both _ _ b.entries (each_both _ _ b.entries named.slot_away (entries_same b m y named intent)) moved.each in
     record {
       targets = each_map _ _ b.entries (λ e h. at e.target (turned _ _ h.0.0.0) ∙ h.1.0 ∙ h.0.1.1) parts;
       temps = each_map _ _ b.entries (λ e h. at (temp_of e) (turned _ _ h.0.0.1) ∙ h.1.1) parts;
-      slot = get-removed z (intent_name b) (intent_name b) ∙ cond_true (same_name (intent_name b) (intent_name b)) _ _ (same_refl (intent_name b));
+      slot = get-removed z (intent_name b) (intent_name b) ∙ cond-true (same_name (intent_name b) (intent_name b)) _ _ (same_refl (intent_name b));
       slot_temp = at (intent_temp b) (turned _ _ (slots_apart b named)) ∙ moved.others (intent_temp b) named.temp_away ∙ intent.no_temp;
       others = λ n p q away. at n p ∙ moved.others n away ∙ intent.others n p q;
     }

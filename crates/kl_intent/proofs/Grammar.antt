@@ -15,9 +15,11 @@ use Rattle.kl_intent.specs.declared.intent.Entry.{Entry}
 use Rattle.kl_intent.specs.declared.intent.Intent.{Intent}
 use Rattle.kl_intent.specs.declared.read.IntentFault.{IntentFault}
 use Rattle.kl_intent.specs.Reading.{Reads}
-use Rattle.kl_intent.specs.IntentText.{line, is_target, is_target_name, IsOld, old_word, slot_word, entry_line, intent_text, is_new, AreDistinct, IsEntry, AreEntries, cut, after_prefix, digest_of, old_of, target_of, entry_of_words, entry_of, wrong_line, end_of, is_empty, is_last, next_entry, next_line, entries_from, with_slot, read_libs, read_slot, read_head, intent_read, entries_of}
-use Rattle.kl_intent.proofs.Cuts.{cut-append, append-cut, after_prefix-append, append-after_prefix, equal_bytes, and_left, and_right}
-use Rattle.kl_intent.proofs.Spelled.{without, digits_path, digits_count, old_path, target_path, digest_again, digest_from, old_again, old_from}
+use Rattle.kl_intent.specs.IntentText.{is_target, is_target_name, IsOld, old_word, slot_word, entry_line, intent_text, is_new, AreDistinct, IsEntry, AreEntries, digest_of, old_of, target_of, entry_of_words, entry_of, wrong_line, end_of, is_empty, is_last, next_entry, next_line, entries_from, with_slot, read_libs, read_slot, read_head, intent_read, entries_of}
+use Rattle.kl_base.proofs.Bools.{and_left, and_right, chosen, equal_bytes}
+use Rattle.kl_text.specs.Lines.{line, cut, after_prefix}
+use Rattle.kl_text.proofs.Cuts.{cut-append, append-cut, after_prefix-append, append-after_prefix, path-lacks}
+use Rattle.kl_intent.proofs.Spelled.{digits_path, digits_count, old_path, target_path, digest_again, digest_from, old_again, old_from}
 
 -- the words of an entry's line
 abbrev pub behind : Entry → List ℕ
@@ -38,18 +40,14 @@ unfolding entry_of
 entry_again e is =
     let rest = λ (r : List ℕ). option_and_then (λ (t, u). option_and_then (λ (o, n). entry_of_words t o n) (cut 32 u)) (cut 32 r) in
     ap (λ q. option_and_then rest q) (after_prefix-append (codes "entry ") (e.target ++ (32 ∷ behind e)))
-    ∙ ap (λ q. option_and_then (λ (t, u). option_and_then (λ (o, n). entry_of_words t o n) (cut 32 u)) q) (cut-append 32 e.target (behind e) (without 32 e.target (omega arith) (target_path e.target is.target)))
-    ∙ ap (λ q. option_and_then (λ (o, n). entry_of_words e.target o n) q) (cut-append 32 (old_word e.old) (encode_lower e.new) (without 32 (old_word e.old) (omega arith) (old_path e.old is.old)))
+    ∙ ap (λ q. option_and_then (λ (t, u). option_and_then (λ (o, n). entry_of_words t o n) (cut 32 u)) q) (cut-append 32 e.target (behind e) (path-lacks 32 e.target (omega arith) (target_path e.target is.target)))
+    ∙ ap (λ q. option_and_then (λ (o, n). entry_of_words e.target o n) q) (cut-append 32 (old_word e.old) (encode_lower e.new) (path-lacks 32 (old_word e.old) (omega arith) (old_path e.old is.old)))
     ∙ words_again e is
 
 -- what a line that is read was printed from
 pub record IsFrom (text : List ℕ) (e : Entry) : Type 0 where
   pub text_is : text ≡ entry_text e
   pub entry : IsEntry e
-
-chosen : {A : Type 0} (b : Bool) (x y : A) → cond b (Some x) None ≡ Some y → (b ≡ true) × (x ≡ y)
-chosen true x y e = (refl, cc)
-chosen false x y e = cc
 
 same_entry : (x y : Entry) → ◌≡◌ {A = Option Entry} (Some x) (Some y) → x ≡ y
 same_entry x y e = cc
@@ -95,8 +93,8 @@ pub entry_cut : (e : Entry) (rest : List ℕ) → IsEntry e → cut 10 (entry_li
 entry_cut e rest is =
     ap (cut 10) (append_assoc (entry_text e) (10 ∷ []) rest)
     ∙ cut-append 10 (entry_text e) rest (both_all (codes "entry ") (e.target ++ (32 ∷ behind e)) _ refl
-    (both_all e.target (32 ∷ behind e) _ (without 10 e.target (omega arith) (target_path e.target is.target))
-    (both_all (old_word e.old) (32 ∷ encode_lower e.new) _ (without 10 (old_word e.old) (omega arith) (old_path e.old is.old)) (without 10 (encode_lower e.new) (omega arith) (digits_path e.new is.new)))))
+    (both_all e.target (32 ∷ behind e) _ (path-lacks 10 e.target (omega arith) (target_path e.target is.target))
+    (both_all (old_word e.old) (32 ∷ encode_lower e.new) _ (path-lacks 10 (old_word e.old) (omega arith) (old_path e.old is.old)) (path-lacks 10 (encode_lower e.new) (omega arith) (digits_path e.new is.new)))))
 
 not_last : (before : List Entry) (e : Entry) → is_last before (entry_text e) ≡ false
 not_last [] e = refl

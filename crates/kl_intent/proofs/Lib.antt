@@ -1,4 +1,3 @@
-pub mod Cuts
 pub mod SoFar
 pub mod Spelled
 pub mod Grammar

@@ -10,21 +10,15 @@ use Rattle.kl_intent.specs.declared.intent.Entry.{Entry}
 use Rattle.kl_intent.specs.declared.intent.Intent.{Intent}
 use Rattle.kl_intent.specs.declared.read.IntentFault.{IntentFault}
 use Rattle.kl_intent.specs.Reading.{Reads}
-use Rattle.kl_intent.specs.Outside.{IsLine, IsFirstOutside}
-use Rattle.kl_intent.specs.IntentText.{line, slot_word, entry_line, intent_text, is_new, AreDistinct, IsEntry, AreEntries, cut, after_prefix, entry_of, wrong_line, end_of, is_last, next_entry, next_line, entries_from, with_slot, read_libs, read_slot, read_head, intent_read}
-use Rattle.kl_intent.proofs.Cuts.{cut-append, append-cut, cut-line, after_prefix-append, append-after_prefix, equal_bytes}
+use Rattle.kl_intent.specs.Outside.{IsFirstOutside}
+use Rattle.kl_intent.specs.IntentText.{slot_word, entry_line, intent_text, is_new, AreDistinct, IsEntry, AreEntries, entry_of, wrong_line, end_of, is_last, next_entry, next_line, entries_from, with_slot, read_libs, read_slot, read_head, intent_read}
+use Rattle.kl_base.proofs.Bools.{equal_bytes}
+use Rattle.kl_text.specs.Lines.{line, IsLine, cut, after_prefix}
+use Rattle.kl_text.proofs.Cuts.{line_cut, same_line, append-cut, cut-line, after_prefix-append, append-after_prefix}
 use Rattle.kl_intent.proofs.Grammar.{entry_from, intent_again, short, with_slot_ok}
-
--- a line that a text begins with is what is cut off
-line_cut : (l more : List ℕ) → IsLine l → cut 10 (line l ++ more) ≡ Some (l, more)
-line_cut l more is = ap (cut 10) (append_assoc l (10 ∷ []) more) ∙ cut-append 10 l more is
 
 cut_first : (l m rest more : List ℕ) → ◌≡◌ {A = Option (List ℕ × List ℕ)} (Some (l, rest)) (Some (m, more)) → l ≡ m
 cut_first l m rest more e = let p : (l, rest) ≡ (m, more) = cc in ap (λ (q : List ℕ × List ℕ). q.0) p
-
--- so it is the only one
-same_line : (l m rest more : List ℕ) → IsLine l → IsLine m → line l ++ rest ≡ line m ++ more → l ≡ m
-same_line l m rest more first second same = cut_first l m rest more (sym (line_cut l rest first) ∙ ap (cut 10) same ∙ line_cut m more second)
 
 -- an entry, for a text to go on with
 abbrev zeros : ℕ → List ℕ

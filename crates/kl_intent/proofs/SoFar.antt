@@ -6,8 +6,9 @@ use Rattle.kl_base.specs.declared.class.Slot.{Slot}
 use Rattle.kl_intent.specs.declared.intent.Entry.{Entry}
 use Rattle.kl_intent.specs.declared.intent.Intent.{Intent}
 use Rattle.kl_intent.specs.declared.read.IntentFault.{IntentFault}
+use Rattle.kl_text.specs.Lines.{cut}
 use Rattle.kl_intent.specs.Reading.{ReadsEntries}
-use Rattle.kl_intent.specs.IntentText.{is_last, end_of, wrong_line, next_line, next_entry, fresh, fresh_entry, entry_of, entries_from, cut, is_new}
+use Rattle.kl_intent.specs.IntentText.{is_last, end_of, wrong_line, next_line, next_entry, fresh, fresh_entry, entry_of, entries_from, is_new}
 
 -- no line more
 pub no_line : (left : ℕ) (before : List Entry) (text : List ℕ) → cut 10 text ≡ None → entries_from left before text ≡ wrong_line before

@@ -1,18 +1,18 @@
 -- Words of printable bytes, and digits among them.
-use Rattle.std.proofs.Common.{◌≡◌, ◌≤◌, ◌<◌, ◌-◌, ◌⊎◌, inl, inr, ℕ, Bool, true, false, not, cond, ◌&&◌, List, [], ◌∷◌, length, refl, sym, ap, ◌∙◌, subst, arith, Option}
-use Rattle.std.specs.Prelude.{Some, None, Ok, Err, Result, ◌==◌, nat_le, is_some, is_none}
+use Rattle.std.proofs.Common.{◌≡◌, ◌≤◌, ◌-◌, ◌⊎◌, inl, inr, ℕ, Bool, true, false, cond, ◌&&◌, List, [], ◌∷◌, length, refl, sym, ap, ◌∙◌, subst, arith, Option}
+use Rattle.std.specs.Prelude.{Some, None, Ok, Err, Result, nat_le, is_some, is_none}
 use Rattle.std.specs.Option.{option_map}
 use Rattle.std.specs.Str.{bytes_eq}
 use Rattle.std.specs.List.{list_all}
 use Rattle.std.proofs.lemmas.List.Sums.{list_all-from_AllPass}
-use Rattle.std.proofs.lemmas.Bool.{leb-true, le-leb, eqb-true}
+use Rattle.std.proofs.lemmas.Bool.{leb-true, le-leb}
 use Rattle.hex.specs.Hex.{is_hex_digit, encode_lower, lower_digits, decode_sized}
 use Rattle.hex.specs.declared.error.FromHexError.{FromHexError}
 use Rattle.hex.proofs.HexLemmas.{decode_of-encode_lower, decode_of-ok, decode_sized-ok, decode_sized-twice, length-encode_with}
 use Rattle.kl_base.specs.Names.{is_path_byte, name_fault}
-use Rattle.kl_base.proofs.Joined.{sound-none}
+use Rattle.kl_base.proofs.Bools.{and_left, and_right, chosen, none_is, same_bytes, equal_bytes, other_bytes}
+use Rattle.kl_base.proofs.Joined.{name_bytes}
 use Rattle.kl_intent.specs.IntentText.{is_target, is_target_name, digest_of, digits_of, old_of, old_word, IsDigest, IsOld}
-use Rattle.kl_intent.proofs.Cuts.{same_bytes, equal_bytes, other_bytes, and_left, and_right}
 
 -- a printable byte that isn't a space, and a digit
 in_range : (low high b : ℕ) → 33 ≤ low → high ≤ 126 → (nat_le low b && nat_le b high) ≡ true → is_path_byte b ≡ true
@@ -39,19 +39,6 @@ all_path : (w : List ℕ) → list_all is_hex_digit w ≡ true → list_all is_p
 all_path [] e = refl
 all_path (b ∷ w) e = rw (hex_path b (and_left (is_hex_digit b) (list_all is_hex_digit w) e), all_path w (and_right (is_hex_digit b) (list_all is_hex_digit w) e)) refl
 
-not_same : (b sep : ℕ) → is_path_byte b ≡ true → sep < 33 → not (b == sep) ≡ true
-not_same b sep e less = cases (b == sep) refl
-  where
-    cases : (t : Bool) → (b == sep) ≡ t → not (b == sep) ≡ true
-    cases true is = let above = leb-true 33 b (and_left (nat_le 33 b) (nat_le b 126) e) in let same = eqb-true b sep is in absurd (omega (arith, above, same, less))
-    cases false is = ap not is
-
--- words of such bytes have no space and no newline
-pub without : (sep : ℕ) (w : List ℕ) → sep < 33 → list_all is_path_byte w ≡ true → list_all (λ b. not (b == sep)) w ≡ true
-without sep [] less e = refl
-without sep (b ∷ w) less e =
-    rw (not_same b sep (and_left (is_path_byte b) (list_all is_path_byte w) e) less, without sep w less (and_right (is_path_byte b) (list_all is_path_byte w) e)) refl
-
 pub digits_path : (d : List ℕ) → IsDigest d → list_all is_path_byte (encode_lower d) ≡ true
 digits_path d is = all_path (encode_lower d) (list_all-from_AllPass is_hex_digit (encode_lower d) (decode_of-ok (encode_lower d) d (decode_of-encode_lower d is.bytes)).1)
 
@@ -62,29 +49,17 @@ pub old_path : (o : Option (List ℕ)) → IsOld o → list_all is_path_byte (ol
 old_path None is = refl
 old_path (Some d) is = digits_path d is
 
-false_not : (b : Bool) → not b ≡ false → b ≡ true
-false_not true e = refl
-false_not false e = cc
-
-no_fault : (o : Option Rattle.kl_base.specs.declared.name.NameFault.NameFault) → is_none o ≡ true → o ≡ None
-no_fault None e = refl
-no_fault (Some f) e = cc
-
 pub target_name : (t : List ℕ) → is_target t ≡ true → name_fault t ≡ None
-target_name t is = no_fault (name_fault t) (and_left (is_none (name_fault t)) (is_target_name t) is)
+target_name t is = none_is (name_fault t) (and_left (is_none (name_fault t)) (is_target_name t) is)
 
 pub target_path : (t : List ℕ) → is_target t ≡ true → list_all is_path_byte t ≡ true
-target_path t is = false_not (list_all is_path_byte t) (sound-none t (target_name t is)).bytes
+target_path t is = name_bytes t (target_name t is)
 
 -- what a word of digits is read as
 pub digest_again : (d : List ℕ) → IsDigest d → digest_of (encode_lower d) ≡ Some d
 digest_again d is =
     ap (digits_of (encode_lower d)) (decode_sized-twice (encode_lower d) 32 (omega (arith, digits_count d is)) ∙ decode_of-encode_lower d is.bytes)
     ∙ ap (λ b. cond b (Some d) None) (same_bytes (encode_lower d))
-
-chosen : {A : Type 0} (b : Bool) (x y : A) → cond b (Some x) None ≡ Some y → (b ≡ true) × (x ≡ y)
-chosen true x y e = (refl, cc)
-chosen false x y e = cc
 
 digits_from : (w d : List ℕ) (r : Result (List ℕ) FromHexError) → digits_of w r ≡ Some d → (r ≡ Ok d) × (w ≡ encode_lower d)
 digits_from w d (Ok x) e = let both = chosen (bytes_eq (encode_lower x) w) x d e in (ap (λ (y : List ℕ). Ok y) both.1, sym (equal_bytes (encode_lower x) w both.0) ∙ ap encode_lower both.1)

@@ -1,5 +1,5 @@
 -- The text of an intent, and what is read of one.
-use Rattle.std.specs.Prelude.{◌≡◌, ◌+◌, ◌<◌, ◌≤◌, ◌==◌, ◌&&◌, ℕ, zero, suc, Bool, true, false, not, cond, nat_le, nat_lt, nat_eq, List, [], ◌∷◌, ◌++◌, length, take, drop, codes, is_none, Option, Some, None, Result, Ok, Err, ⊤}
+use Rattle.std.specs.Prelude.{◌≡◌, ◌+◌, ◌<◌, ◌≤◌, ◌&&◌, ℕ, zero, suc, Bool, true, false, not, cond, nat_le, nat_lt, nat_eq, List, [], ◌∷◌, ◌++◌, length, take, codes, is_none, Option, Some, None, Result, Ok, Err, ⊤}
 use Rattle.std.specs.Str.{bytes_eq}
 use Rattle.std.specs.Option.{option_map, option_and_then}
 use Rattle.std.specs.List.{flat_map, ends_with, list_all}
@@ -9,13 +9,10 @@ use Rattle.hex.specs.declared.error.FromHexError.{FromHexError}
 use Rattle.kl_base.specs.Names.{name_fault}
 use Rattle.kl_base.specs.declared.class.Slot.{Slot}
 use Rattle.kl_base.specs.declared.class.Slot.TheVariants.{Kernel, Libs}
+use Rattle.kl_text.specs.Lines.{line, first_line, cut, after_prefix}
 use Rattle.kl_intent.specs.declared.intent.Entry.{Entry}
 use Rattle.kl_intent.specs.declared.intent.Intent.{Intent}
 use Rattle.kl_base.specs.declared.limits.TheConstants.{ENTRY_LIMIT, INTENT_LIMIT, SCRATCH_SUFFIX, TARGET_LIMIT}
-
--- bytes and a newline
-abbrev pub line : List ℕ → List ℕ
-line bytes = bytes ++ 10 ∷ []
 
 -- the name of each slot's file
 abbrev pub slot_name : Slot → List ℕ
@@ -82,15 +79,6 @@ pub record AreEntries (entries : List Entry) : Type 0 where
   pub each : AllByRecursion IsEntry entries
   pub distinct : AreDistinct [] entries
 
--- bytes up to the first of this value, and those behind it
-abbrev pub cut : ℕ → List ℕ → Option (List ℕ × List ℕ)
-cut sep [] = None
-cut sep (b ∷ bytes) = cond (b == sep) (Some ([], bytes)) (option_map (λ (l, rest). (b ∷ l, rest)) (cut sep bytes))
-
--- what follows a prefix
-abbrev pub after_prefix : List ℕ → List ℕ → Option (List ℕ)
-after_prefix p text = cond (bytes_eq (take (length p) text) p) (Some (drop (length p) text)) None
-
 -- the bytes of 64 lower-case digits
 abbrev pub digits_of : List ℕ → Result (List ℕ) FromHexError → Option (List ℕ)
 digits_of word (Ok digest) = cond (bytes_eq (encode_lower digest) word) (Some digest) None
@@ -151,8 +139,8 @@ next_line before (Some (text, rest)) more = cond (is_last before text) (end_of b
 -- The entries of a text, behind those before it, of which at most so many more may come; or the number of the first line
 -- that is outside the grammar.
 unfoldable pub entries_from : ℕ → List Entry → List ℕ → Result (List Entry) ℕ
-entries_from zero before text = next_line before (cut 10 text) (λ e rest. wrong_line before)
-entries_from (suc left) before text = next_line before (cut 10 text) (λ e rest. entries_from left (before ++ e ∷ []) rest)
+entries_from zero before text = next_line before (first_line text) (λ e rest. wrong_line before)
+entries_from (suc left) before text = next_line before (first_line text) (λ e rest. entries_from left (before ++ e ∷ []) rest)
 
 -- with the slot
 abbrev pub with_slot : Slot → Result (List Entry) ℕ → Result (Slot × List Entry) ℕ

@@ -1,16 +1,10 @@
 -- The first line of a text that no intent's text goes on with.
-use Rattle.std.specs.Prelude.{◌≡◌, ◌+◌, ◌==◌, ℕ, Bool, true, not, List, ◌++◌, length}
-use Rattle.std.specs.List.{flat_map, list_all, AllByRecursion}
+use Rattle.std.specs.Prelude.{◌≡◌, ◌+◌, ℕ, List, ◌++◌, length}
+use Rattle.std.specs.List.{flat_map, AllByRecursion}
 use Rattle.kl_base.specs.declared.class.Slot.{Slot}
 use Rattle.kl_intent.specs.declared.intent.Entry.{Entry}
-use Rattle.kl_intent.specs.IntentText.{line, intent_text, AreEntries}
-
--- a line has no newline in it
-abbrev pub is_line : List ℕ → Bool
-is_line text = list_all (λ b. not (b == 10)) text
-
-abbrev pub IsLine : List ℕ → Type 0
-IsLine text = is_line text ≡ true
+use Rattle.kl_text.specs.Lines.{line, IsLine}
+use Rattle.kl_intent.specs.IntentText.{intent_text, AreEntries}
 
 -- the text of some intent begins so
 pub record Begins (start : List ℕ) : Type 0 where

@@ -6,7 +6,6 @@ mod digests;
 mod intent;
 mod print;
 mod read;
-mod words;
 
 pub use intent::{Entry, Intent, slot_name};
 pub use print::print_intent;

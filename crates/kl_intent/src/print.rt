@@ -2,7 +2,8 @@
 ghost use Rattle.std.specs.Prelude.{◌≡◌, ◌≤◌, ◌+◌, ◌++◌, ◌*◌, length, take, codes};
 ghost use Rattle.std.specs.List.{flat_map, AllByRecursion};
 ghost use Rattle.hex.specs.Hex.{encode_lower};
-ghost use Rattle.kl_intent.specs.IntentText.{line, slot_word, old_word, entry_line, intent_text, entries_of, IsEntry, AreEntries};
+ghost use Rattle.kl_intent.specs.IntentText.{slot_word, old_word, entry_line, intent_text, entries_of, IsEntry, AreEntries};
+ghost use Rattle.kl_text.specs.Lines.{line};
 ghost use Rattle.kl_base.specs.declared.limits.TheConstants.{ENTRY_LIMIT};
 
 use crate::intent::{Entry, Intent};

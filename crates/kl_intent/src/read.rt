@@ -2,14 +2,15 @@
 ghost use Rattle.std.specs.Prelude.{◌≡◌, ◌≢◌, ◌≤◌, ◌<◌, ◌+◌, ℕ, List, [], length, Ok, IfOk, IfErr, OnErr, OnOk, Some, None, codes, ◌++◌, ◌∷◌};
 ghost use Rattle.kl_base.specs.declared.class.Slot.{Slot};
 ghost use Rattle.kl_intent.specs.declared.intent.Entry.{Entry};
-ghost use Rattle.kl_intent.specs.IntentText.{intent_read, intent_text, AreEntries, read_slot, read_libs, after_prefix, line, entries_of, entries_from, entry_of, entry_of_words, fresh_entry, is_target, is_target_name, is_new, is_other, is_last, end_of, target_of};
+ghost use Rattle.kl_intent.specs.IntentText.{intent_read, intent_text, AreEntries, read_slot, read_libs, entries_of, entries_from, entry_of, entry_of_words, fresh_entry, is_target, is_target_name, is_new, is_other, is_last, end_of, target_of};
+ghost use Rattle.kl_text.specs.Lines.{line, after_prefix};
 ghost use Rattle.kl_intent.specs.Reading.{Reads, ReadsEntries};
 ghost use Rattle.kl_intent.specs.Outside.{IsFirstOutside};
 
 use crate::digests::{digest_of, old_of};
 use crate::intent::{Entry, Intent};
-use crate::words::split;
 use kl_base::{ENTRY_LIMIT, INTENT_LIMIT, Name, SCRATCH_SUFFIX, Slot, TARGET_LIMIT};
+use kl_text::{first_line, split};
 
 /// The first line of a text that is outside the grammar of intents, counted from 1, or 0 where the text
 /// has more than 4,096 bytes.
@@ -78,7 +79,7 @@ fn read_entries(slot: Slot, text: &[u8]) -> Result<Intent, IntentFault>
 {
     let mut intent = Intent::new(slot);
     let mut rest = text;
-    while let Some((line, more)) = split(rest, b'\n') {
+    while let Some((line, more)) = first_line(rest) {
         if is_last(intent.entries(), line) {
             return ended(intent, more);
         }

@@ -1,9 +1,10 @@
 -- Kits of one input.
-use Rattle.std.proofs.Common.{ℕ, zero, suc, ◌≡◌, ◌∙◌, ◌^◌, ◌≤◌, Bool, true, false, cond, List, [], ◌∷◌, length, refl, arith}
-use Rattle.std.specs.Prelude.{All, None, Some, nat_lt}
+use Rattle.std.proofs.Common.{ℕ, ◌≡◌, ◌∙◌, ◌^◌, ◌≤◌, Bool, true, false, cond, List, [], ◌∷◌, length, refl, arith}
+use Rattle.std.specs.Prelude.{None, Some, nat_lt}
 use Rattle.std.specs.Option.{option_map}
 use Rattle.std.specs.FinMap.{get}
 use Rattle.std.proofs.lemmas.Bool.{ltb-false}
+use Rattle.kl_base.proofs.Bools.{alone}
 use Rattle.kl_store.specs.Names.{Names}
 use Rattle.kl_model.specs.Faults.{link_fault}
 use Rattle.kl_model.specs.Fit.{AreFit, IsFit, IsKernelKit}
@@ -49,10 +50,6 @@ within_limits true b d e = cc
 within_limits false true d e = cc
 within_limits false false true e = cc
 within_limits false false false e = (refl, (refl, refl))
-
-alone : {X : Type 0} (P : X → Type 0) (x : X) → P x → All P (x ∷ [])
-alone P x h zero d l = h
-alone P x h (suc k) d l = absurd (omega arith)
 
 fit_alone : (x : Input) → IsFit x → over_limit x ≡ None → length x.bytes ≤ 67108864 → AreFit (x ∷ [])
 fit_alone x fit limit small =

@@ -1,7 +1,6 @@
 -- What writing an image and its map leaves.
-use Rattle.std.proofs.Common.{◌≡◌, ◌≢◌, ℕ, ◌-◌, true, List, [], ◌∷◌, ◌++◌, length, refl, sym, ap, ◌∙◌, arith, rules, append_assoc, length-append}
-use Rattle.std.specs.Prelude.{codes, nat_eq}
-use Rattle.std.specs.Cmp.Lexicographic.{pointwise}
+use Rattle.std.proofs.Common.{◌≡◌, ◌≢◌, ℕ, ◌-◌, true, List, ◌++◌, length, refl, sym, ap, ◌∙◌, arith, append_assoc, length-append}
+use Rattle.std.specs.Prelude.{codes}
 use Rattle.std.proofs.lemmas.List.{drop_at}
 use Rattle.kl_store.specs.Names.{is_scratch}
 use Rattle.kl_store.specs.Disk.{Disk, names_now, with_file}
@@ -18,13 +17,6 @@ use Rattle.kl_store.proofs.WrittenFiles.{is_written, near_files, near_twice}
 use Rattle.kl_jobs.specs.Writing.{IsPutPair, image_name, map_name}
 
 -- names that end so are scratch names
-same_bytes : (xs : List ℕ) → pointwise nat_eq xs xs ≡ true
-same_bytes [] = refl
-same_bytes (x ∷ xs) = rw (same_number x, same_bytes xs) refl
-  where
-    same_number : (n : ℕ) → nat_eq n n ≡ true
-    same_number n = search rules
-
 scratch : (dir front : List ℕ) → is_scratch (dir ++ (front ++ codes ".relink")) ≡ true
 scratch dir front =
     let whole : dir ++ (front ++ codes ".relink") ≡ (dir ++ front) ++ codes ".relink" = sym (append_assoc dir front (codes ".relink")) in

@@ -12,10 +12,12 @@ use Rattle.kl_model.specs.declared.place.AreaAt.{AreaAt}
 use Rattle.kl_model.specs.declared.place.Placed.{Placed}
 use Rattle.kl_model.specs.declared.place.Placement.{Placement}
 use Rattle.kl_model.specs.Lists.{each, each_from}
+use Rattle.kl_text.specs.Lines.{words_line}
+use Rattle.kl_text.proofs.Cuts.{same_cut}
 use Rattle.kl_map.specs.declared.map.Map.{Map}
-use Rattle.kl_map.specs.MapText.{area_line, area_name, class_name, hexadecimal, id_words, line, output_line, seed_line, base_line, map_text, placed_line}
+use Rattle.kl_map.specs.MapText.{area_line, area_name, class_name, hexadecimal, id_words, output_line, seed_line, base_line, map_text, placed_line}
 use Rattle.kl_map.specs.Spelling.{AreaFits, IdFits, OneSpelling, PlacedFits}
-use Rattle.kl_map.proofs.Texts.{name_lacks, same_address, same_before, same_digits, same_number}
+use Rattle.kl_map.proofs.Texts.{name_lacks, same_address, same_digits, same_number}
 
 abbrev area_of : ℕ → ℕ → AreaAt
 area_of start end = record { start = start; end = end }
@@ -76,7 +78,7 @@ abbrev sizes_then : ℕ → ℕ → List ℕ → List ℕ
 sizes_then address size a = hexadecimal address ++ 32 ∷ (hexadecimal size ++ 10 ∷ a)
 
 id_line-append : (id : PieceId) (address size : ℕ) (a : List ℕ)
-    → line (id_words id ++ hexadecimal address ∷ hexadecimal size ∷ []) ++ a ≡ id_then id (sizes_then address size a)
+    → words_line (id_words id ++ hexadecimal address ∷ hexadecimal size ∷ []) ++ a ≡ id_then id (sizes_then address size a)
 id_line-append (Section input section) address size a = simp append_assoc
 id_line-append (Common number) address size a = simp append_assoc
 id_line-append (Gap class) address size a = simp append_assoc
@@ -186,13 +188,13 @@ same_areas k (x ∷ xs) (y ∷ ys) a b fits suits h j e =
     (same, rest.1)
 
 -- a line of two words with what follows it
-line-append : (w x a : List ℕ) → line (w ∷ x ∷ []) ++ a ≡ w ++ 32 ∷ (x ++ 10 ∷ a)
-line-append w x a = simp append_assoc
+words_line-append : (w x a : List ℕ) → words_line (w ∷ x ∷ []) ++ a ≡ w ++ 32 ∷ (x ++ 10 ∷ a)
+words_line-append w x a = simp append_assoc
 
 -- the second word with what follows it
-same_word : (w x y a b : List ℕ) → line (w ∷ x ∷ []) ++ a ≡ line (w ∷ y ∷ []) ++ b → x ++ 10 ∷ a ≡ y ++ 10 ∷ b
+same_word : (w x y a b : List ℕ) → words_line (w ∷ x ∷ []) ++ a ≡ words_line (w ∷ y ∷ []) ++ b → x ++ 10 ∷ a ≡ y ++ 10 ∷ b
 same_word w x y a b e =
-    append_cancel_left (codes " ") _ _ (append_cancel_left w _ _ (sym (line-append w x a) ∙ e ∙ line-append w y b))
+    append_cancel_left (codes " ") _ _ (append_cancel_left w _ _ (sym (words_line-append w x a) ∙ e ∙ words_line-append w y b))
 
 seven_parts : (a b c d e f g : List ℕ) → a ++ b ++ c ++ d ++ e ++ f ++ g ≡ a ++ (b ++ (c ++ (d ++ (e ++ (f ++ g)))))
 seven_parts a b c d e f g = simp append_assoc
@@ -202,10 +204,10 @@ abbrev tail_lines : Placement → List ℕ
 tail_lines p = each p.areas area_line ++ (flat_map placed_line p.pieces ++ last_line)
 
 -- the first line, and then each part with what follows it
-map_text-parts : (m : Map) → map_text m ≡ line (codes "relink" ∷ codes "map" ∷ codes "1" ∷ [])
+map_text-parts : (m : Map) → map_text m ≡ words_line (codes "relink" ∷ codes "map" ∷ codes "1" ∷ [])
     ++ (output_line m.output ++ (seed_line m.seed ++ (base_line m.placement.base ++ tail_lines m.placement)))
 unfolding map_text
-map_text-parts m = seven_parts (line (codes "relink" ∷ codes "map" ∷ codes "1" ∷ [])) (output_line m.output) (seed_line m.seed)
+map_text-parts m = seven_parts (words_line (codes "relink" ∷ codes "map" ∷ codes "1" ∷ [])) (output_line m.output) (seed_line m.seed)
     (base_line m.placement.base) (each m.placement.areas area_line) (flat_map placed_line m.placement.pieces) last_line
 
 abbrev placement_of : ℕ → List AreaAt → List Placed → Placement
@@ -228,7 +230,7 @@ map_eq x y o s p =
 pub one_spelling : OneSpelling
 one_spelling x y fits suits e =
     let read = append_cancel_left (codes "relink map 1\n") _ _ (sym (map_text-parts x) ∙ e ∙ map_text-parts y) in
-    let outputs = same_before 10 x.output y.output _ _ (name_lacks x.output fits.output) (name_lacks y.output suits.output)
+    let outputs = same_cut 10 x.output y.output _ _ (name_lacks x.output fits.output) (name_lacks y.output suits.output)
     (same_word (codes "output") x.output y.output _ _ read) in
     let long : length x.seed ≡ length y.seed = fits.seed_length ∙ sym suits.seed_length in
     let seeds = same_digits x.seed y.seed _ _ fits.seed suits.seed long (same_word (codes "seed") _ _ _ _ outputs.1) in

@@ -1,15 +1,17 @@
 -- Parts of a text that are known from the whole.
-use Rattle.std.proofs.Common.{◌≡◌, ℕ, zero, suc, ◌^◌, ◌<◌, ◌≢◌, Bool, true, false, not, cond, Some, List, [], ◌∷◌, ◌++◌, length, get_or, refl, sym, ◌∙◌, ap, arith, decimal, None}
+use Rattle.std.proofs.Common.{◌≡◌, ◌==◌, ℕ, zero, suc, ◌^◌, ◌<◌, true, false, List, [], ◌∷◌, ◌++◌, length, refl, sym, ◌∙◌, ap, arith, decimal, None}
 use Rattle.std.specs.Int.{to_be_bytes, from_be_bytes, bytes_high_first, byte_at, w64}
-use Rattle.std.specs.List.{list_all, find}
-use Rattle.std.proofs.lemmas.List.Sums.{AllPass-from_list_all}
+use Rattle.std.specs.Str.Parse.{AllDigits}
+use Rattle.std.proofs.lemmas.Bool.{ne_eqb}
 use Rattle.std.proofs.lemmas.Fmt.{decimal_injective, decimal_is_IsNumeral}
 use Rattle.std.proofs.lemmas.Nat.{from_be_bytes-to_be_bytes_8}
 use Rattle.std.proofs.lemmas.Str.Parse.{digit_at}
 use Rattle.hex.specs.Hex.{IsBytes, decode_of, encode_lower, lower_digits}
 use Rattle.hex.proofs.HexLemmas.{length-encode_with, decode_of-encode_lower}
-use Rattle.kl_base.specs.Names.{name_fault, stands, is_path_byte}
-use Rattle.kl_base.specs.declared.name.NameFault.TheVariants.{Empty, TooLong, NotAbsolute, BadByte, EmptyPart, DotPart}
+use Rattle.kl_base.specs.Names.{name_fault}
+use Rattle.kl_base.proofs.Joined.{name_bytes}
+use Rattle.kl_text.specs.Lines.{lacks}
+use Rattle.kl_text.proofs.Cuts.{same_cut, path-lacks}
 use Rattle.kl_map.specs.MapText.{hexadecimal}
 
 -- two texts with their rests
@@ -28,30 +30,16 @@ same_front (x ∷ xs) (y ∷ ys) a b n e =
     let whole : x ∷ xs ≡ y ∷ ys = cc in
     (whole, rest.1)
 
--- the byte doesn't stand in the text
-abbrev pub Lacks : ℕ → List ℕ → Type 0
-Lacks c xs = (i : ℕ) → i < length xs → get_or xs i 0 ≢ c
-
-lacks_tail : (c x : ℕ) (xs : List ℕ) → Lacks c (x ∷ xs) → Lacks c xs
-lacks_tail c x xs h i below = h (suc i) (omega arith)
-
--- the part before the first byte of that value
-pub same_before : (c : ℕ) (xs ys a b : List ℕ) → Lacks c xs → Lacks c ys → xs ++ c ∷ a ≡ ys ++ c ∷ b → Alike xs ys a b
-same_before c [] [] a b h k e = let rests : a ≡ b = cc in (refl, rests)
-same_before c [] (y ∷ ys) a b h k e = let here : y ≡ c = cc in absurd (k 0 (omega arith) here)
-same_before c (x ∷ xs) [] a b h k e = let here : x ≡ c = cc in absurd (h 0 (omega arith) here)
-same_before c (x ∷ xs) (y ∷ ys) a b h k e =
-    let tails : xs ++ c ∷ a ≡ ys ++ c ∷ b = cc in
-    let first : x ≡ y = cc in
-    let rest = same_before c xs ys a b (lacks_tail c x xs h) (lacks_tail c y ys k) tails in
-    let whole : x ∷ xs ≡ y ∷ ys = cc in
-    (whole, rest.1)
-
 -- a decimal number has no space
-decimal_lacks : (n : ℕ) → n < 2 ^ 64 → Lacks 32 (decimal n)
-decimal_lacks n fits i below e =
-    let digit = digit_at (decimal n) i (decimal_is_IsNumeral n fits).0.1 below in
-    omega (arith, digit.0, e)
+digits_lack : (ds : List ℕ) → AllDigits 10 ds → lacks 32 ds ≡ true
+digits_lack [] digits = refl
+digits_lack (d ∷ ds) digits =
+    let range = digit_at (d ∷ ds) 0 digits (omega arith) in
+    let other : (d == 32) ≡ false = ne_eqb d 32 (λ e. omega (arith, range.0, e)) in
+    rw (other, digits_lack ds digits.1) refl
+
+decimal_lacks : (n : ℕ) → n < 2 ^ 64 → lacks 32 (decimal n) ≡ true
+decimal_lacks n fits = digits_lack (decimal n) (decimal_is_IsNumeral n fits).0.1
 
 -- a number before a space
 pub same_number : (m n : ℕ) (a b : List ℕ) → m < 2 ^ 32 → n < 2 ^ 32
@@ -59,7 +47,7 @@ pub same_number : (m n : ℕ) (a b : List ℕ) → m < 2 ^ 32 → n < 2 ^ 32
 same_number m n a b small little e =
     let fits : m < 2 ^ 64 = omega arith in
     let suits : n < 2 ^ 64 = omega arith in
-    let parts = same_before 32 (decimal m) (decimal n) a b (decimal_lacks m fits) (decimal_lacks n suits) e in
+    let parts = same_cut 32 (decimal m) (decimal n) a b (decimal_lacks m fits) (decimal_lacks n suits) e in
     (decimal_injective m n fits suits parts.0, parts.1)
 
 byte_fits : (k n : ℕ) → byte_at k n < 256
@@ -96,22 +84,6 @@ same_address m n a b fits suits e =
     let second = from_be_bytes-to_be_bytes_8 n suits in
     (sym first ∙ ap (from_be_bytes w64) parts.0 ∙ second, parts.1)
 
--- what no search finds passes the test nowhere
-find_none : {X : Type 0} (p : X → Bool) (xs : List X) (k : ℕ) (d : X) → find p xs ≡ None → k < length xs → p (get_or xs k d) ≡ false
-find_none p [] k d h below = absurd (omega arith)
-find_none p (x ∷ xs) zero d h below = elim (p x) as (λ b. cond b (Some x) (find p xs) ≡ None → b ≡ false) [ true ↦ λ e. cc | false ↦ λ e. refl ] h
-find_none p (x ∷ xs) (suc k) d h below =
-    elim (p x) as (λ b. cond b (Some x) (find p xs) ≡ None → p (get_or xs k d) ≡ false) [
-      | true ↦ λ e. cc
-      | false ↦ λ e. find_none p xs k d e (omega arith)
-    ] h
-
 -- a name has no newline
-pub name_lacks : (name : List ℕ) → name_fault name ≡ None → Lacks 10 name
-name_lacks name h i below e =
-    let good : not (list_all is_path_byte name) ≡ false =
-    find_none (stands name) (Empty ∷ TooLong ∷ NotAbsolute ∷ BadByte ∷ EmptyPart ∷ DotPart ∷ []) 3 BadByte h (omega arith) in
-    let all : list_all is_path_byte name ≡ true = grind arith in
-    let here = AllPass-from_list_all is_path_byte name all i 0 below in
-    let newline : is_path_byte 10 ≡ true = rw e at here in
-    cc
+pub name_lacks : (name : List ℕ) → name_fault name ≡ None → lacks 10 name ≡ true
+name_lacks name h = path-lacks 10 name (omega arith) (name_bytes name h)

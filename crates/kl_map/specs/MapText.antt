@@ -1,10 +1,11 @@
 -- The text of a map.
 use Rattle.std.specs.Prelude.{ℕ, ◌-◌, ◌++◌, ◌∷◌, [], List, codes, decimal, slice_get, unwrap_or}
-use Rattle.std.specs.List.{join_with_byte, flat_map}
+use Rattle.std.specs.List.{flat_map}
 use Rattle.std.specs.Int.{to_be_bytes, w64}
 use Rattle.hex.specs.Hex.{encode_lower}
 use Rattle.kl_base.specs.declared.class.Class.{Class}
 use Rattle.kl_base.specs.declared.class.Class.TheVariants.{Text, Rodata, Rwdata, Bss}
+use Rattle.kl_text.specs.Lines.{words_line}
 use Rattle.kl_model.specs.declared.graph.PieceId.{PieceId}
 use Rattle.kl_model.specs.declared.graph.PieceId.TheVariants.{Section, Common, Gap}
 use Rattle.kl_model.specs.declared.place.AreaAt.{AreaAt}
@@ -13,10 +14,6 @@ use Rattle.kl_model.specs.Areas.{map_name}
 use Rattle.kl_model.specs.declared.area.TheConstants as area
 use Rattle.kl_model.specs.Lists.{each}
 use Rattle.kl_map.specs.declared.map.Map.{Map}
-
--- words parted by one space, and a newline
-abbrev pub line : List (List ℕ) → List ℕ
-line words = join_with_byte 32 words ++ codes "\n"
 
 -- an address or a size: `0x` and sixteen digits, with lower-case letters
 unfoldable pub hexadecimal : ℕ → List ℕ
@@ -42,28 +39,28 @@ id_words (Gap class) = codes "gap" ∷ class_name class ∷ []
 -- the line of the area of that number
 unfoldable pub area_line : ℕ → AreaAt → List ℕ
 area_line number area =
-    line (codes "area" ∷ area_name number ∷ hexadecimal area.start ∷ hexadecimal area.end ∷ [])
+    words_line (codes "area" ∷ area_name number ∷ hexadecimal area.start ∷ hexadecimal area.end ∷ [])
 
 -- the line of a piece, a common or a gap
 unfoldable pub placed_line : Placed → List ℕ
-placed_line placed = line (id_words placed.id ++ hexadecimal placed.address ∷ hexadecimal placed.size ∷ [])
+placed_line placed = words_line (id_words placed.id ++ hexadecimal placed.address ∷ hexadecimal placed.size ∷ [])
 
 -- the line of the image's name
 abbrev pub output_line : List ℕ → List ℕ
-output_line name = line (codes "output" ∷ name ∷ [])
+output_line name = words_line (codes "output" ∷ name ∷ [])
 
 -- the line of the seed, with two digits a byte
 abbrev pub seed_line : List ℕ → List ℕ
-seed_line seed = line (codes "seed" ∷ encode_lower seed ∷ [])
+seed_line seed = words_line (codes "seed" ∷ encode_lower seed ∷ [])
 
 -- the line of the address that the image begins at
 abbrev pub base_line : ℕ → List ℕ
-base_line base = line (codes "base" ∷ hexadecimal base ∷ [])
+base_line base = words_line (codes "base" ∷ hexadecimal base ∷ [])
 
 -- the lines before the areas
 abbrev pub head_lines : Map → List ℕ
 head_lines map =
-    line (codes "relink" ∷ codes "map" ∷ codes "1" ∷ [])
+    words_line (codes "relink" ∷ codes "map" ∷ codes "1" ∷ [])
     ++ output_line map.output
     ++ seed_line map.seed
     ++ base_line map.placement.base
@@ -74,4 +71,4 @@ map_text map =
     head_lines map
     ++ each map.placement.areas area_line
     ++ flat_map placed_line map.placement.pieces
-    ++ line (codes "end" ∷ [])
+    ++ words_line (codes "end" ∷ [])

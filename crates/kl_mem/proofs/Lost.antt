@@ -6,13 +6,13 @@ use Rattle.std.specs.FinMap.{get, insert, get-empty}
 use Rattle.std.specs.Ordering.{nat_cmp}
 use Rattle.std.specs.Cmp.Lexicographic.{slice_cmp}
 use Rattle.std.proofs.lemmas.List.{take_more}
+use Rattle.std.proofs.lemmas.Bool.{cases_Bool, cond-true, cond-false}
 use Rattle.kl_store.specs.Disk.{Disk, names_now}
 use Rattle.kl_mem.specs.declared.step.Step.{Step}
 use Rattle.kl_mem.specs.declared.step.Step.TheVariants.{Put}
 use Rattle.kl_mem.specs.Record.{disk_of}
 use Rattle.kl_mem.proofs.Written.{disk_more, names_more}
 use Rattle.kl_store.specs.Names.{Names, Change, same_name}
-use Rattle.kl_store.proofs.Branches.{either, cond_true, cond_false}
 use Rattle.kl_store.proofs.NameMaps.{same_eq, get-inserted}
 use Rattle.kl_mem.specs.Picked.{IsKept, IsLeft, AreLeft, twisted}
 
@@ -48,15 +48,15 @@ put_left changes k twist m x done n bytes part left = record {
   left = λ q in_it. ⊎_elim
       (λ is.
       let same : q ≡ n = same_eq q n is in
-      let here : get (insert x n bytes) q ≡ Some bytes = get-inserted x n bytes q ∙ cond_true (same_name q n) _ _ is in
+      let here : get (insert x n bytes) q ≡ Some bytes = get-inserted x n bytes q ∙ cond-true (same_name q n) _ _ is in
       subst (λ (p : List ℕ). IsLeft changes k twist p (get m p) (get (insert x n bytes) q)) (sym same) (subst (λ (o : Option (List ℕ)). IsLeft changes k twist n (get m n) o) (sym here) left))
       (λ other.
-      let there : get (insert x n bytes) q ≡ get x q = get-inserted x n bytes q ∙ cond_false (same_name q n) _ _ other in
+      let there : get (insert x n bytes) q ≡ get x q = get-inserted x n bytes q ∙ cond-false (same_name q n) _ _ other in
       subst (λ (o : Option (List ℕ)). IsLeft changes k twist q (get m q) o) (sym there) (part.left q (second _ _ other (sym (one_more done n q) ∙ in_it))))
-      (either (same_name q n));
+      (cases_Bool (same_name q n));
   none = λ q out.
       let both = neither (is_member same_name done q) (same_name q n) (sym (one_more done n q) ∙ out) in
-      get-inserted x n bytes q ∙ cond_false (same_name q n) _ _ both.1 ∙ part.none q both.0;
+      get-inserted x n bytes q ∙ cond-false (same_name q n) _ _ both.1 ∙ part.none q both.0;
 }
 
 none_left : (changes : List Change) (k twist : ℕ) (n : List ℕ) (before now : Option (List ℕ)) → before ≡ None → now ≡ None → IsLeft changes k twist n before now
@@ -70,8 +70,8 @@ skip_left changes k twist m x done n part absent = record {
       (λ new. ⊎_elim
       (λ is. none_left changes k twist q (get m q) (get x q) (ap (λ (p : List ℕ). get m p) (same_eq q n is) ∙ absent) (part.none q new))
       (λ other. part.left q (second _ _ other (sym (one_more done n q) ∙ in_it)))
-      (either (same_name q n)))
-      (either (is_member same_name done q));
+      (cases_Bool (same_name q n)))
+      (cases_Bool (is_member same_name done q));
   none = λ q out. part.none q (neither (is_member same_name done q) (same_name q n) (sym (one_more done n q) ∙ out)).0;
 }
 
@@ -84,7 +84,7 @@ pub all_left : (changes : List Change) (k twist : ℕ) (m x : Names) (names : Li
 all_left changes k twist m x names part all q = ⊎_elim
     (λ in_it. part.left q in_it)
     (λ out. none_left changes k twist q (get m q) (get x q) (no_some (get m q) (all q ∙ out)) (part.none q out))
-    (either (is_member same_name names q))
+    (cases_Bool (is_member same_name names q))
 
 -- what is left of one file
 pub left_kept : (changes : List Change) (k twist : ℕ) (n bytes : List ℕ) → ((x : List ℕ) × IsKept changes k n x) → IsLeft changes k twist n (Some bytes) (Some bytes)

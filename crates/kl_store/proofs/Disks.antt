@@ -3,9 +3,10 @@ use Rattle.std.proofs.Common.{◌≡◌, ◌≢◌, inl, inr, ◌⊎◌, ⊎_eli
 use Rattle.std.specs.Prelude.{Option, Some, None}
 use Rattle.std.proofs.lemmas.List.{take-append-le, take_all}
 use Rattle.std.specs.FinMap.{get}
+use Rattle.std.proofs.lemmas.Bool.{cases_Bool, cond-true, cond-false}
+use Rattle.kl_base.proofs.Bools.{true_false}
 use Rattle.kl_store.specs.Names.{Names, same_name, Change, Create, Append, Rename, Remove, set, carried_out, all_carried_out}
 use Rattle.kl_store.specs.Disk.{Disk, names_now, joined, Numbers, renumbered, all_renumbered, IsAppendedTo, IsImageAfter, IsImage, IsNear, IsMove, AreMoves}
-use Rattle.kl_store.proofs.Branches.{either, cond_true, cond_false}
 use Rattle.kl_store.proofs.NameMaps.{same_refl, same_eq, same_apart, get-set, get-renamed, get-removed, get-created, get-appended, same_names, all_carried_out-append}
 
 pub le_or_more : (a b : ℕ) → (a ≤ b) ⊎ (b < a)
@@ -17,10 +18,6 @@ pub all_renumbered-append : (cs ds : List Change) (f : Numbers) → all_renumber
 all_renumbered-append [] ds f = refl
 all_renumbered-append (c ∷ cs) ds f = all_renumbered-append cs ds (renumbered c f)
 
--- one test has no two answers
-pub true_false : {P : Type 0} → true ≡ false → P
-true_false e = cc
-
 some_none : {A : Type 0} (x : A) → ◌≡◌ {A = Option A} None (Some x) → ⊥
 some_none x e = cc
 
@@ -30,31 +27,31 @@ Keeps file f m first = (n : List ℕ) → f n ≡ Some file → get m n ≡ get 
 
 kept_created : (k : List ℕ) (f : Numbers) (m first : Names) (file : List ℕ) → Keeps file f m first → Keeps file (renumbered (Create k) f) (carried_out (Create k) m) first
 kept_created k f m first file keeps n e = ⊎_elim
-    (λ is. absurd (some_none file (sym (cond_true (same_name n k) None (f n) is) ∙ e)))
-    (λ other. get-created m k n ∙ cond_false (same_name n k) _ _ other ∙ keeps n (sym (cond_false (same_name n k) None (f n) other) ∙ e))
-    (either (same_name n k))
+    (λ is. absurd (some_none file (sym (cond-true (same_name n k) None (f n) is) ∙ e)))
+    (λ other. get-created m k n ∙ cond-false (same_name n k) _ _ other ∙ keeps n (sym (cond-false (same_name n k) None (f n) other) ∙ e))
+    (cases_Bool (same_name n k))
 
 kept_removed : (k : List ℕ) (f : Numbers) (m first : Names) (file : List ℕ) → Keeps file f m first → Keeps file (renumbered (Remove k) f) (carried_out (Remove k) m) first
 kept_removed k f m first file keeps n e = ⊎_elim
-    (λ is. absurd (some_none file (sym (cond_true (same_name n k) None (f n) is) ∙ e)))
-    (λ other. get-removed m k n ∙ cond_false (same_name n k) _ _ other ∙ keeps n (sym (cond_false (same_name n k) None (f n) other) ∙ e))
-    (either (same_name n k))
+    (λ is. absurd (some_none file (sym (cond-true (same_name n k) None (f n) is) ∙ e)))
+    (λ other. get-removed m k n ∙ cond-false (same_name n k) _ _ other ∙ keeps n (sym (cond-false (same_name n k) None (f n) other) ∙ e))
+    (cases_Bool (same_name n k))
 
 kept_appended : (k bytes : List ℕ) (f : Numbers) (m first : Names) (file : List ℕ) → (f k ≡ Some file → ⊥) → Keeps file f m first → Keeps file f (carried_out (Append k bytes) m) first
 kept_appended k bytes f m first file never keeps n e = ⊎_elim
     (λ is. absurd (never (ap f (sym (same_eq n k is)) ∙ e)))
-    (λ other. get-appended m k bytes n ∙ cond_false (same_name n k) _ _ other ∙ keeps n e)
-    (either (same_name n k))
+    (λ other. get-appended m k bytes n ∙ cond-false (same_name n k) _ _ other ∙ keeps n e)
+    (cases_Bool (same_name n k))
 
 kept_renamed : (a b : List ℕ) (f : Numbers) (m first : Names) (file : List ℕ) → Keeps file f m first → Keeps file (renumbered (Rename a b) f) (carried_out (Rename a b) m) first
 kept_renamed a b f m first file keeps n e = ⊎_elim
-    (λ is. get-renamed m a b n ∙ cond_true (same_name n b) _ _ is ∙ keeps a (sym (cond_true (same_name n b) (f a) _ is) ∙ e))
-    (λ other. let e2 = sym (cond_false (same_name n b) (f a) (cond (same_name n a) None (f n)) other) ∙ e in
-    get-renamed m a b n ∙ cond_false (same_name n b) _ _ other ∙ ⊎_elim
-    (λ is. absurd (some_none file (sym (cond_true (same_name n a) None (f n) is) ∙ e2)))
-    (λ nor. cond_false (same_name n a) _ _ nor ∙ keeps n (sym (cond_false (same_name n a) None (f n) nor) ∙ e2))
-    (either (same_name n a)))
-    (either (same_name n b))
+    (λ is. get-renamed m a b n ∙ cond-true (same_name n b) _ _ is ∙ keeps a (sym (cond-true (same_name n b) (f a) _ is) ∙ e))
+    (λ other. let e2 = sym (cond-false (same_name n b) (f a) (cond (same_name n a) None (f n)) other) ∙ e in
+    get-renamed m a b n ∙ cond-false (same_name n b) _ _ other ∙ ⊎_elim
+    (λ is. absurd (some_none file (sym (cond-true (same_name n a) None (f n) is) ∙ e2)))
+    (λ nor. cond-false (same_name n a) _ _ nor ∙ keeps n (sym (cond-false (same_name n a) None (f n) nor) ∙ e2))
+    (cases_Bool (same_name n a)))
+    (cases_Bool (same_name n b))
 
 -- a file that no change appends to keeps its bytes
 pub kept_through : (cs : List Change) (f : Numbers) (m first : Names) (file : List ℕ) → Keeps file f m first → ¬ IsAppendedTo file cs f → Keeps file (all_renumbered cs f) (all_carried_out cs m) first
@@ -137,13 +134,13 @@ pub record IsOf (name : List ℕ) (c : Change) : Type 0 where
 
 pub is_of_create : (n : List ℕ) → IsOf n (Create n)
 is_of_create n = record {
-  other_bytes = λ m q other. get-created m n q ∙ cond_false (same_name q n) _ _ (same_apart q n other);
-  other_numbers = λ f q other. cond_false (same_name q n) _ _ (same_apart q n other);
+  other_bytes = λ m q other. get-created m n q ∙ cond-false (same_name q n) _ _ (same_apart q n other);
+  other_numbers = λ f q other. cond-false (same_name q n) _ _ (same_apart q n other);
 }
 
 pub is_of_append : (n bytes : List ℕ) → IsOf n (Append n bytes)
 is_of_append n bytes = record {
-  other_bytes = λ m q other. get-appended m n bytes q ∙ cond_false (same_name q n) _ _ (same_apart q n other);
+  other_bytes = λ m q other. get-appended m n bytes q ∙ cond-false (same_name q n) _ _ (same_apart q n other);
   other_numbers = λ f q other. refl;
 }
 
@@ -152,9 +149,9 @@ put_back : (d : Disk) (n : List ℕ) (c : Change) (x : Names) → IsHarmless d c
 put_back d n c x harmless of i =
     let y : Names = set x n (get (names_now d) n) in
     let here : (q : List ℕ) → same_name q n ≡ true → get y q ≡ get (names_now d) q =
-    λ q is. get-set x n (get (names_now d) n) q ∙ cond_true (same_name q n) _ _ is ∙ ap (λ (p : List ℕ). get (names_now d) p) (sym (same_eq q n is)) in
+    λ q is. get-set x n (get (names_now d) n) q ∙ cond-true (same_name q n) _ _ is ∙ ap (λ (p : List ℕ). get (names_now d) p) (sym (same_eq q n is)) in
     let there : (q : List ℕ) → same_name q n ≡ false → get y q ≡ get x q =
-    λ q other. get-set x n (get (names_now d) n) q ∙ cond_false (same_name q n) _ _ other in
+    λ q other. get-set x n (get (names_now d) n) q ∙ cond-false (same_name q n) _ _ other in
     let away : (q : List ℕ) → same_name q n ≡ false → q ≢ n =
     λ q other e. true_false (sym (ap (λ (p : List ℕ). same_name p n) e ∙ same_refl n) ∙ other) in
     let all : take (length d.changes) d.changes ≡ d.changes = take_all (length d.changes) d.changes (omega arith) in
@@ -168,7 +165,7 @@ put_back d n c x harmless of i =
               (λ is. ap is_some (here q is))
               (λ other. ap is_some (there q other) ∙ i.same_names q ∙ ap (λ (cs : List Change). is_some (get (all_carried_out cs d.stable) q)) (all_taken d c)
               ∙ ap (λ (m : Names). is_some (get m q)) (all_carried_out-append d.changes (c ∷ []) d.stable) ∙ ap is_some (of.other_bytes (names_now d) q (away q other)))
-              (either (same_name q n)) ∙ ap (λ (cs : List Change). is_some (get (all_carried_out cs d.stable) q)) (sym all);
+              (cases_Bool (same_name q n)) ∙ ap (λ (cs : List Change). is_some (get (all_carried_out cs d.stable) q)) (sym all);
           kept = λ q file e never.
               let now : all_renumbered d.changes Some q ≡ Some file = ap (λ (cs : List Change). all_renumbered cs Some q) (sym all) ∙ e in
               ⊎_elim
@@ -176,7 +173,7 @@ put_back d n c x harmless of i =
               (λ other. there q other ∙ i.kept q file
               (ap (λ (cs : List Change). all_renumbered cs Some q) (all_taken d c) ∙ ap (λ (g : Numbers). g q) (all_renumbered-append d.changes (c ∷ []) Some) ∙ of.other_numbers _ q (away q other) ∙ now)
               (λ h. ⊎_elim never (harmless file) (appended_parts file d.changes (c ∷ []) Some h)))
-              (either (same_name q n));
+              (cases_Bool (same_name q n));
         };
       };
       others = λ q other. sym (there q (same_apart q n other));
@@ -212,16 +209,16 @@ numbered [] f m h so = so
 numbered (Create k ∷ cs) f m h so = absurd h.0
 numbered (Append k bytes ∷ cs) f m h so = absurd h.0
 numbered (Rename a b ∷ cs) f m h so = numbered cs (renumbered (Rename a b) f) (carried_out (Rename a b) m) h.1 (λ n e. get-renamed m a b n ∙ ⊎_elim
-    (λ is. cond_true (same_name n b) _ _ is ∙ so a (sym (cond_true (same_name n b) (f a) _ is) ∙ e))
-    (λ other. cond_false (same_name n b) _ _ other ∙ ⊎_elim
-    (λ is. cond_true (same_name n a) _ _ is)
-    (λ nor. cond_false (same_name n a) _ _ nor ∙ so n (sym (cond_false (same_name n a) None (f n) nor) ∙ sym (cond_false (same_name n b) (f a) (cond (same_name n a) None (f n)) other) ∙ e))
-    (either (same_name n a)))
-    (either (same_name n b)))
+    (λ is. cond-true (same_name n b) _ _ is ∙ so a (sym (cond-true (same_name n b) (f a) _ is) ∙ e))
+    (λ other. cond-false (same_name n b) _ _ other ∙ ⊎_elim
+    (λ is. cond-true (same_name n a) _ _ is)
+    (λ nor. cond-false (same_name n a) _ _ nor ∙ so n (sym (cond-false (same_name n a) None (f n) nor) ∙ sym (cond-false (same_name n b) (f a) (cond (same_name n a) None (f n)) other) ∙ e))
+    (cases_Bool (same_name n a)))
+    (cases_Bool (same_name n b)))
 numbered (Remove k ∷ cs) f m h so = numbered cs (renumbered (Remove k) f) (carried_out (Remove k) m) h.1 (λ n e. get-removed m k n ∙ ⊎_elim
-    (λ is. cond_true (same_name n k) _ _ is)
-    (λ other. cond_false (same_name n k) _ _ other ∙ so n (sym (cond_false (same_name n k) None (f n) other) ∙ e))
-    (either (same_name n k)))
+    (λ is. cond-true (same_name n k) _ _ is)
+    (λ other. cond-false (same_name n k) _ _ other ∙ so n (sym (cond-false (same_name n k) None (f n) other) ∙ e))
+    (cases_Bool (same_name n k)))
 
 no_some : (o : Option (List ℕ)) → is_some o ≡ false → o ≡ None
 no_some None e = refl
@@ -252,7 +249,7 @@ pub near_created : (d : Disk) (n : List ℕ) (x : Names) → IsImage (joined (Cr
 near_created d n x i = near_joined d n (Create n) x (λ file h. h) (is_of_create n) i
 
 created_number : (d : Disk) (n : List ℕ) → all_renumbered (d.changes ++ Create n ∷ []) Some n ≡ None
-created_number d n = ap (λ (g : Numbers). g n) (all_renumbered-append d.changes (Create n ∷ []) Some) ∙ cond_true (same_name n n) _ _ (same_refl n)
+created_number d n = ap (λ (g : Numbers). g n) (all_renumbered-append d.changes (Create n ∷ []) Some) ∙ cond-true (same_name n n) _ _ (same_refl n)
 
 -- bytes that are added to a file made since the last settle change nothing but that file
 pub near_appended : (d : Disk) (n bytes : List ℕ) (x : Names) → all_renumbered d.changes Some n ≡ None → IsImage (joined (Append n bytes) d) x → IsNear n d x

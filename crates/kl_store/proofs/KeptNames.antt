@@ -2,11 +2,11 @@
 use Rattle.std.proofs.Common.{◌≡◌, ◌≢◌, ℕ, List, true, false, refl, sym, ap, ◌∙◌, ⊎_elim, is_some}
 use Rattle.std.specs.Prelude.{Option, Some, None, option_map, Bool, Result, Ok, Err, ◌⊎◌}
 use Rattle.std.specs.FinMap.{get}
+use Rattle.std.proofs.lemmas.Bool.{cond-false}
 use Rattle.kl_store.specs.Names.{Names, Change, Create, Append, Rename, Remove, carried_out, cut, is_scratch, same_name}
 use Rattle.kl_store.specs.Meaning.{Meaning}
 use Rattle.kl_store.specs.Calls.{Keeps, Stays, Makes, MakesIf, Does, DoesIf, Settles}
 use Rattle.kl_store.specs.Files.{KeepsNames, SameFiles}
-use Rattle.kl_store.proofs.Branches.{cond_false}
 use Rattle.kl_store.proofs.NameMaps.{same_apart, get-created, get-appended, get-renamed, get-removed}
 
 same_told : {o : Option Names} (m n : Names) → o ≡ Some m → o ≡ Some n → m ≡ n
@@ -54,10 +54,10 @@ IsOff (Rename a b) n = (n ≢ a) × (n ≢ b)
 IsOff (Remove a) n = n ≢ a
 
 off_same : (c : Change) (m : Names) (n : List ℕ) → IsOff c n → get (carried_out c m) n ≡ get m n
-off_same (Create a) m n off = get-created m a n ∙ cond_false (same_name n a) _ _ (same_apart n a off)
-off_same (Append a bytes) m n off = get-appended m a bytes n ∙ cond_false (same_name n a) _ _ (same_apart n a off)
-off_same (Rename a b) m n off = get-renamed m a b n ∙ cond_false (same_name n b) _ _ (same_apart n b off.1) ∙ cond_false (same_name n a) _ _ (same_apart n a off.0)
-off_same (Remove a) m n off = get-removed m a n ∙ cond_false (same_name n a) _ _ (same_apart n a off)
+off_same (Create a) m n off = get-created m a n ∙ cond-false (same_name n a) _ _ (same_apart n a off)
+off_same (Append a bytes) m n off = get-appended m a bytes n ∙ cond-false (same_name n a) _ _ (same_apart n a off)
+off_same (Rename a b) m n off = get-renamed m a b n ∙ cond-false (same_name n b) _ _ (same_apart n b off.1) ∙ cond-false (same_name n a) _ _ (same_apart n a off.0)
+off_same (Remove a) m n off = get-removed m a n ∙ cond-false (same_name n a) _ _ (same_apart n a off)
 
 cut_off : (k : ℕ) (c : Change) (n : List ℕ) → IsOff c n → IsOff (cut k c) n
 cut_off k (Create a) n off = off

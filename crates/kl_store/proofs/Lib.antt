@@ -1,4 +1,3 @@
-pub mod Branches
 pub mod NameMaps
 pub mod Disks
 pub mod Moments

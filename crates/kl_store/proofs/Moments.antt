@@ -7,7 +7,8 @@ use Rattle.kl_store.specs.Disk.{Disk, IsImage, joined, names_now, settled, AreMo
 use Rattle.kl_store.specs.Meaning.{Meaning}
 use Rattle.kl_store.specs.Images.{LeavesOfDisk, MayLeave, Nothing}
 use Rattle.kl_store.specs.Calls.{Stays, Makes, MakesIf, IsSettled}
-use Rattle.kl_store.proofs.Disks.{joined_move, now_is_image, true_false}
+use Rattle.kl_base.proofs.Bools.{true_false}
+use Rattle.kl_store.proofs.Disks.{joined_move, now_is_image}
 
 pub same_disk : (d e : Disk) → ◌≡◌ {A = Option Disk} (Some d) (Some e) → d ≡ e
 same_disk d e is = cc

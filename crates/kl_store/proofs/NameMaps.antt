@@ -6,8 +6,8 @@ use Rattle.std.proofs.lemmas.Cmp.{nat_list_cmp_total}
 use Rattle.std.proofs.lemmas.Map.Text.{is_eq-slice_cmp}
 use Rattle.std.proofs.lemmas.Slice.Eq.{bytes_eq-Decides}
 use Rattle.std.specs.FinMap.{get, insert, remove, get-insert, get-remove, same_map, nat_cmp-IsAntisymmetric, slice_cmp-IsAntisymmetric}
+use Rattle.std.proofs.lemmas.Bool.{cases_Bool, cond-true, cond-false}
 use Rattle.kl_store.specs.Names.{Names, same_name, Change, Create, Append, Rename, Remove, set, carried_out, all_carried_out}
-use Rattle.kl_store.proofs.Branches.{either, cond_true, cond_false}
 
 pub same_refl : (n : List ℕ) → same_name n n ≡ true
 same_refl n = (eq_by_cmp_equiv nat_list_cmp_total).refl n
@@ -48,9 +48,9 @@ all_carried_out-append (c ∷ cs) ds m = all_carried_out-append cs ds (carried_o
 -- what stands there already
 pub insert_same : (m : Names) (k v : List ℕ) → get m k ≡ Some v → insert m k v ≡ m
 insert_same m k v is = same_names _ _ (λ q. get-inserted m k v q ∙ ⊎_elim
-    (λ here. cond_true (same_name q k) _ _ here ∙ sym is ∙ ap (λ (p : List ℕ). get m p) (sym (same_eq q k here)))
-    (λ other. cond_false (same_name q k) _ _ other)
-    (either (same_name q k)))
+    (λ here. cond-true (same_name q k) _ _ here ∙ sym is ∙ ap (λ (p : List ℕ). get m p) (sym (same_eq q k here)))
+    (λ other. cond-false (same_name q k) _ _ other)
+    (cases_Bool (same_name q k)))
 
 -- whether a name is there, as a fact for each answer
 pub by_presence : (b : Bool) (o : Option (List ℕ)) → b ≡ is_some o → MatchBool b (IsSome o) (o ≡ None)
@@ -66,28 +66,28 @@ no_some (Some v) e = cc
 -- a name that is absent
 pub remove_absent : (m : Names) (k : List ℕ) → is_some (get m k) ≡ false → remove m k ≡ m
 remove_absent m k absent = same_names _ _ (λ q. get-removed m k q ∙ ⊎_elim
-    (λ here. cond_true (same_name q k) _ _ here ∙ sym (no_some (get m k) absent) ∙ ap (λ (p : List ℕ). get m p) (sym (same_eq q k here)))
-    (λ other. cond_false (same_name q k) _ _ other)
-    (either (same_name q k)))
+    (λ here. cond-true (same_name q k) _ _ here ∙ sym (no_some (get m k) absent) ∙ ap (λ (p : List ℕ). get m p) (sym (same_eq q k here)))
+    (λ other. cond-false (same_name q k) _ _ other)
+    (cases_Bool (same_name q k)))
 
 -- of two files put under one name the later stands
 pub insert_again : (m : Names) (k v w : List ℕ) → insert (insert m k v) k w ≡ insert m k w
 insert_again m k v w = same_names _ _ (λ q. get-inserted (insert m k v) k w q ∙ ap (λ o. cond (same_name q k) (Some w) o) (get-inserted m k v q) ∙ ⊎_elim
-    (λ here. cond_true (same_name q k) _ _ here ∙ sym (cond_true (same_name q k) (Some w) (get m q) here))
-    (λ other. cond_false (same_name q k) _ _ other ∙ cond_false (same_name q k) _ _ other ∙ sym (cond_false (same_name q k) (Some w) (get m q) other))
-    (either (same_name q k)) ∙ sym (get-inserted m k w q))
+    (λ here. cond-true (same_name q k) _ _ here ∙ sym (cond-true (same_name q k) (Some w) (get m q) here))
+    (λ other. cond-false (same_name q k) _ _ other ∙ cond-false (same_name q k) _ _ other ∙ sym (cond-false (same_name q k) (Some w) (get m q) other))
+    (cases_Bool (same_name q k)) ∙ sym (get-inserted m k w q))
 
 -- a rename, made in steps that leave the file's bytes in no two places
 pub renamed_by_steps : (m : Names) (a b v : List ℕ) → a ≢ b → get m a ≡ Some v → remove (insert (insert m a []) b v) a ≡ carried_out (Rename a b) m
 renamed_by_steps m a b v apart is = same_names _ _ (λ q.
     get-removed (insert (insert m a []) b v) a q ∙ ap (λ o. cond (same_name q a) None o) (get-inserted (insert m a []) b v q ∙ ap (λ o. cond (same_name q b) (Some v) o) (get-inserted m a [] q))
     ∙ ⊎_elim
-    (λ from. cond_true (same_name q a) _ _ from ∙ sym (cond_false (same_name q b) (get m a) _ (same_apart q b (λ to. apart (sym (same_eq q a from) ∙ to))) ∙ cond_true (same_name q a) _ _ from))
-    (λ other. cond_false (same_name q a) _ _ other ∙ ap (λ o. cond (same_name q b) (Some v) o) (cond_false (same_name q a) (Some []) (get m q) other)
-    ∙ ap (λ o. cond (same_name q b) o (get m q)) (sym is) ∙ ap (λ o. cond (same_name q b) (get m a) o) (sym (cond_false (same_name q a) None (get m q) other)))
-    (either (same_name q a))
+    (λ from. cond-true (same_name q a) _ _ from ∙ sym (cond-false (same_name q b) (get m a) _ (same_apart q b (λ to. apart (sym (same_eq q a from) ∙ to))) ∙ cond-true (same_name q a) _ _ from))
+    (λ other. cond-false (same_name q a) _ _ other ∙ ap (λ o. cond (same_name q b) (Some v) o) (cond-false (same_name q a) (Some []) (get m q) other)
+    ∙ ap (λ o. cond (same_name q b) o (get m q)) (sym is) ∙ ap (λ o. cond (same_name q b) (get m a) o) (sym (cond-false (same_name q a) None (get m q) other)))
+    (cases_Bool (same_name q a))
     ∙ sym (get-renamed m a b q))
 
 -- a file that was just put there
 pub get-here : (m : Names) (n bytes : List ℕ) → get (insert m n bytes) n ≡ Some bytes
-get-here m n bytes = get-inserted m n bytes n ∙ cond_true (same_name n n) _ _ (same_refl n)
+get-here m n bytes = get-inserted m n bytes n ∙ cond-true (same_name n n) _ _ (same_refl n)

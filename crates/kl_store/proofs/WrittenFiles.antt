@@ -2,11 +2,11 @@
 use Rattle.std.proofs.Common.{◌≡◌, ◌≢◌, ℕ, List, [], ◌++◌, true, false, refl, ap, ◌∙◌}
 use Rattle.std.specs.Prelude.{Some, unwrap_or}
 use Rattle.std.specs.FinMap.{get}
+use Rattle.std.proofs.lemmas.Bool.{cond-true, cond-false}
 use Rattle.kl_store.specs.Names.{Names, same_name, is_scratch, Create, Append, carried_out}
 use Rattle.kl_store.specs.Disk.{Disk, IsImage, IsNear, names_now, joined, with_file}
 use Rattle.kl_store.specs.Files.{HasFiles, IsWritten}
 use Rattle.kl_store.proofs.NameMaps.{same_refl, same_apart, get-created, get-appended}
-use Rattle.kl_store.proofs.Branches.{cond_true, cond_false}
 use Rattle.kl_store.proofs.Disks.{names_now-joined}
 use Rattle.kl_store.proofs.KeptNames.{plain_not_scratch}
 
@@ -14,12 +14,12 @@ pub written_names : (d : Disk) (n bytes : List ℕ) → names_now (with_file n b
 written_names d n bytes = names_now-joined (joined (Create n) d) (Append n bytes) ∙ ap (carried_out (Append n bytes)) (names_now-joined d (Create n))
 
 written_here : (m : Names) (n bytes : List ℕ) → get (carried_out (Append n bytes) (carried_out (Create n) m)) n ≡ Some bytes
-written_here m n bytes = get-appended (carried_out (Create n) m) n bytes n ∙ cond_true (same_name n n) _ _ (same_refl n)
-    ∙ ap (λ o. Some (unwrap_or o [] ++ bytes)) (get-created m n n ∙ cond_true (same_name n n) _ _ (same_refl n))
+written_here m n bytes = get-appended (carried_out (Create n) m) n bytes n ∙ cond-true (same_name n n) _ _ (same_refl n)
+    ∙ ap (λ o. Some (unwrap_or o [] ++ bytes)) (get-created m n n ∙ cond-true (same_name n n) _ _ (same_refl n))
 
 pub written_other : (m : Names) (n bytes q : List ℕ) → q ≢ n → get (carried_out (Append n bytes) (carried_out (Create n) m)) q ≡ get m q
-written_other m n bytes q other = get-appended (carried_out (Create n) m) n bytes q ∙ cond_false (same_name q n) _ _ (same_apart q n other)
-    ∙ get-created m n q ∙ cond_false (same_name q n) _ _ (same_apart q n other)
+written_other m n bytes q other = get-appended (carried_out (Create n) m) n bytes q ∙ cond-false (same_name q n) _ _ (same_apart q n other)
+    ∙ get-created m n q ∙ cond-false (same_name q n) _ _ (same_apart q n other)
 
 pub written : (d : Disk) (n bytes : List ℕ) → get (names_now (with_file n bytes d)) n ≡ Some bytes
 written d n bytes = ap (λ (m : Names). get m n) (written_names d n bytes) ∙ written_here (names_now d) n bytes

@@ -4,15 +4,12 @@ use Rattle.std.specs.Prelude.{All, AllPairs}
 use Rattle.std.specs.List.{range_with_len}
 use Rattle.std.proofs.lemmas.List.Elements.{All-append}
 use Rattle.std.proofs.lemmas.List.Sums.{sum_by-le}
+use Rattle.kl_base.proofs.Bools.{alone}
 use Rattle.kl_model.specs.Fit.{AreFit, IsFit}
 use Rattle.kl_model.specs.Kept.{part_number}
 use Rattle.kl_model.specs.declared.object.Input.{Input}
 use Rattle.kl_model.proofs.Each.{pairs-append}
 use Rattle.link_tests.specs.Small.{IsSmall}
-
-alone : {X : Type 0} (P : X → Type 0) (x : X) → P x → All P (x ∷ [])
-alone P x h zero d l = h
-alone P x h (suc k) d l = absurd (omega arith)
 
 pub all_push : {X : Type 0} (P : X → Type 0) (xs : List X) (x : X) → All P xs → P x → All P (xs ++ x ∷ [])
 all_push P xs x h hx = All-append P xs (x ∷ []) h (alone P x hx)
