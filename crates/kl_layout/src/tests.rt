@@ -2,9 +2,10 @@ ghost use Rattle.std.specs.Prelude.{ℕ, ◌≡◌, ◌*◌, ◌<◌, ◌≤◌,
 ghost use Rattle.kl_model.specs.Fit.{IsKernelKit};
 ghost use Rattle.kl_model.specs.Simple.{IsSimplePiece, IsSimpleGraph};
 ghost use Rattle.kl_model.specs.declared.kit.Kit.{Kit};
+ghost use Rattle.kl_base.specs.declared.limits.TheConstants.{SIZE_LIMIT};
 
 use crate::{LayoutFault, place};
-use kl_base::{Class, Listed, Name, NoMemory, Range};
+use kl_base::{Class, Listed, Name, NoMemory, PAGE, Range};
 use kl_model::{AreaAt, Graph, Kit, KitKind, Made, Part, Piece, PieceId, Placement, Word};
 use std::alloc::Global;
 use std::test::Fail;
