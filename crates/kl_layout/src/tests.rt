@@ -3,6 +3,7 @@ ghost use Rattle.kl_model.specs.Fit.{IsKernelKit};
 ghost use Rattle.kl_model.specs.Simple.{IsSimplePiece, IsSimpleGraph};
 ghost use Rattle.kl_model.specs.declared.kit.Kit.{Kit};
 ghost use Rattle.kl_base.specs.declared.limits.TheConstants.{SIZE_LIMIT};
+ghost use Rattle.kl_model.specs.declared.kit.KitKind.TheVariants.{Kernel};
 
 use crate::{LayoutFault, place};
 use kl_base::{Class, Listed, Name, NoMemory, PAGE, Range};
@@ -60,7 +61,7 @@ fn graph(alloc: Global, parts: Vec<Part>, sizes: &[u64]) -> Result<Graph, NoMemo
     requires count { length sizes.now ≡ length parts.items }
     requires few { length sizes.now ≤ 16 }
     requires sizes { All (λ n. n ≤ SIZE_LIMIT) sizes.now }
-    ensures simple { IfOk result (λ g. (kit : Kit) → kit.runs ≡ [] → IsSimpleGraph kit g) }
+    ensures simple { IfOk result (λ g. (kit : Kit) → kit.kind ≡ Kernel → kit.runs ≡ [] → IsSimpleGraph kit g) }
     ensures parts { IfOk result (λ g. g.parts ≡ parts.items) }
 {
     let mut pieces = Listed::new(alloc);

@@ -1,4 +1,5 @@
 -- The entries that a reader holds.
+-- These words serve contracts inside this crate; what it promises to others is said without them.
 use Rattle.std.specs.Prelude.{ℕ, ◌≡◌, true, List}
 use Rattle.kl_rel.specs.Headers.{section}
 use Rattle.kl_rel.specs.SymbolTables.{symbol_count}

@@ -1,4 +1,5 @@
 -- What a list of fields keeps beside them.
+-- These words serve contracts inside this crate; what it promises to others is said without them.
 use Rattle.std.specs.Prelude.{ℕ, ◌+◌, ◌≤◌, ◌<◌, ◌^◌, ◌≡◌, Bool, List, slice_index, not, MatchOption, Option}
 use Rattle.std.specs.List.{list_any, range_with_len, All}
 use Rattle.std.specs.Ordering.{nat_cmp, ordering_then}

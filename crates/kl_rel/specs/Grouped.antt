@@ -1,4 +1,5 @@
 -- Which sections are in a group so far, by number.
+-- These words serve contracts inside this crate; what it promises to others is said without them.
 use Rattle.std.specs.Prelude.{ℕ, ◌<◌, ◌≡◌, Bool, false, not, ◌&&◌, ◌==◌, nat_lt, List, length, slice_index_or}
 use Rattle.kl_model.specs.Lists.{number_in}
 use Rattle.kl_rel.specs.Headers.{head}

@@ -1,4 +1,5 @@
 -- What an index of a string table holds.
+-- These words serve contracts inside this crate; what it promises to others is said without them.
 use Rattle.std.specs.Prelude.{ℕ, ◌+◌, ◌-◌, ◌*◌, ◌/◌, ◌<◌, ◌≤◌, ◌≡◌, ◌==◌, List, length, drop, slice_index, slice_range}
 use Rattle.std.specs.List.{position_or_len}
 use Rattle.kl_elf.specs.declared.records.Shdr.{Shdr}

@@ -1,4 +1,5 @@
 -- The pieces of sections, by section number.
+-- These words serve contracts inside this crate; what it promises to others is said without them.
 use Rattle.std.specs.Prelude.{ℕ, ◌≡◌, cond, List, [], ◌∷◌, Option, Some, None}
 use Rattle.kl_model.specs.Lists.{each, each_from}
 use Rattle.kl_model.specs.Texts.{text_at}

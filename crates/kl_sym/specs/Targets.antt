@@ -1,4 +1,5 @@
 -- Where a field leads, and its faults, by the table of its input and an index of names.
+-- These words serve contracts inside this crate; what it promises to others is said without them.
 use Rattle.std.specs.Prelude.{ℕ, cond, not, ◌==◌, List, [], ◌++◌, slice_index_or, codes, Option, Some, None, Result, Ok, Err}
 use Rattle.std.specs.Result.{result_unwrap_or}
 use Rattle.std.specs.Str.{bytes_eq}
