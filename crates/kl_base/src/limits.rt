@@ -42,6 +42,15 @@ pub const KERNEL_BASE: u64 = 0xffff_ffff_8100_0000;
 /// The page of a kernel, in bytes, and the least page of a library.
 pub const PAGE: u64 = 4096;
 
+/// How far from 0 an offset and an addend together may lie in a roomy kit: 1 GiB.
+pub const NEAR_LIMIT: u64 = 1_073_741_824;
+
+/// What a roomy kit keeps free for gaps, in bytes: 1 MiB.
+pub const GAP_ROOM: u64 = 1_048_576;
+
+/// What a roomy kit keeps free for pages, in bytes: 16 MiB.
+pub const PAGE_ROOM: u64 = 16_777_216;
+
 /// The length of a name, in bytes.
 pub const NAME_LIMIT: usize = 255;
 

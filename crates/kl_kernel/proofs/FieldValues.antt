@@ -6,12 +6,13 @@ use Rattle.std.proofs.lemmas.List.{append-nil}
 use Rattle.kl_le.specs.Bytes.{ChangesWithin, Outside}
 use Rattle.kl_le.proofs.Num.{num_kept}
 use Rattle.kl_model.specs.Lists.{each}
-use Rattle.kl_model.specs.Line.{same_target}
+use Rattle.kl_model.specs.Slots.{same_target}
 use Rattle.kl_model.specs.Relocations.{is_slot_kind}
 use Rattle.kl_model.specs.Reaches.{value}
 use Rattle.kl_model.specs.Relocations.{width, in_range}
-use Rattle.kl_model.specs.Carries.{address_of}
-use Rattle.kl_model.specs.Faults.{does_fit, field_address, value_target}
+use Rattle.kl_model.specs.Leads.{address_of}
+use Rattle.kl_model.specs.Faults.{does_fit}
+use Rattle.kl_model.specs.Leads.{field_address, value_target}
 use Rattle.kl_model.specs.Simple.{IsSimpleField, IsSimpleTarget, StandApart}
 use Rattle.kl_model.specs.declared.graph.Field.{Field}
 use Rattle.kl_model.specs.declared.graph.Graph.{Graph}
@@ -20,6 +21,8 @@ use Rattle.kl_model.specs.declared.graph.Target.TheVariants.{Place, Abs, Edge, N
 use Rattle.kl_model.specs.declared.place.Placement.{Placement}
 use Rattle.kl_model.proofs.Each.{each_more}
 use Rattle.kl_kernel.specs.TextImage.{HoldsValue, StandInText, field_at, field_place, no_field, range_fault, stands_at}
+use Rattle.kl_model.specs.Slots.{Directly, way, way_of}
+use Rattle.kl_model.specs.Leads.{led_to}
 
 pub not_gone : (g : Graph) (t : Target) → IsSimpleTarget g t → same_target t Gone ≡ false
 not_gone g (Place n k) h = refl
@@ -34,16 +37,25 @@ no_slot kind (inl e) = rw e refl
 no_slot kind (inr (inl e)) = rw e refl
 no_slot kind (inr (inr e)) = rw e refl
 
+-- it leads to its target by itself
+pub directly : (g : Graph) (kind : ℕ) (t : Target) → (kind ≡ 1) ⊎ ((kind ≡ 2) ⊎ (kind ≡ 4)) → IsSimpleTarget g t → way kind t ≡ Directly
+directly g kind (Place n k) e h = rw (no_slot kind e) refl
+directly g kind (Abs n) e h = rw (no_slot kind e) refl
+directly g kind (Edge n b) e h = absurd h
+directly g kind (Name n) e h = absurd h
+directly g kind Zero e h = rw (no_slot kind e) refl
+directly g kind Gone e h = absurd h
+
 pub wide : (kind : ℕ) → (kind ≡ 1) ⊎ ((kind ≡ 2) ⊎ (kind ≡ 4)) → 0 < width kind
 wide kind (inl e) = rw e (omega arith)
 wide kind (inr (inl e)) = rw e (omega arith)
 wide kind (inr (inr e)) = rw e (omega arith)
 
 pub target-value : (p : Placement) (g : Graph) (f : Field) → IsSimpleField g f → value_target p g f ≡ address_of p g f.target
-target-value p g f s = rw (no_slot f.kind s.kind) refl
+target-value p g f s = ap (led_to p g f.target) (directly g f.kind f.target s.kind s.target)
 
 pub fit-is : (p : Placement) (g : Graph) (f : Field) → IsSimpleField g f → does_fit p g f ≡ in_range f.kind (value f.kind (address_of p g f.target) f.addend (field_address p g f))
-fit-is p g f s = rw (not_gone g f.target s.target, no_slot f.kind s.kind) refl
+fit-is p g f s = rw (not_gone g f.target s.target, target-value p g f s) refl
 
 module _ (p : Placement) (g : Graph) (stand : StandInText p g) (simple : All (IsSimpleField g) g.fields) (apart : AllPairs StandApart g.fields) where
   -- two fields share no byte of the file

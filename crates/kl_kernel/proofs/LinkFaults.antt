@@ -20,6 +20,7 @@ use Rattle.kl_layout.specs.declared.fault.LayoutFault.TheVariants as layout
 use Rattle.kl_layout.specs.Spans.{as_link_fault, layout_fault, no_made}
 use Rattle.kl_kernel.specs.TextImage.{HoldsValue}
 use Rattle.kl_kernel.proofs.TextCarries.{nothing_made}
+use Rattle.kl_model.specs.declared.kit.KitKind.TheVariants.{Kernel}
 
 none_first : {X : Type 0} (xs : List X) → slice_get xs 0 ≡ None → xs ≡ []
 none_first [] e = refl
@@ -46,12 +47,12 @@ module _ (kit : Kit) (inputs : List Input) (order : List ℕ) where
   unfolding link_fault
   first_of_names e h = head_left (resolve_faults kit inputs) (graph_faults kit (graph kit inputs) None order) e h
 
-  module _ (sound : resolve_fault kit inputs ≡ None) (writable : IsWritable inputs (graph kit inputs)) where
+  module _ (kernel : kit.kind ≡ Kernel) (sound : resolve_fault kit inputs ≡ None) (writable : IsWritable inputs (graph kit inputs)) where
     after_names : link_fault kit inputs None order
         ≡ slice_get (span_faults (span kit (graph kit inputs) None order no_made) ++ range_faults (placed kit (graph kit inputs) None order no_made) (graph kit inputs)) 0
     unfolding link_fault
     after_names =
-        let made = nothing_made kit inputs (graph kit inputs) writable in
+        let made = nothing_made kit inputs (graph kit inputs) kernel writable in
         ap (λ fs. slice_get (fs ++ graph_faults kit (graph kit inputs) None order) 0) (none_first (resolve_faults kit inputs) sound)
         ∙ ap (λ m. slice_get (span_faults (span kit (graph kit inputs) None order m) ++ range_faults (placed kit (graph kit inputs) None order m) (graph kit inputs)) 0) made
 

@@ -1,7 +1,7 @@
 -- The steps of a link: names, the layout, the image.
 use Rattle.std.proofs.Common.{◌≡◌, ◌≤◌, ◌∙◌, ℕ, List, ap, map}
 use Rattle.std.specs.Prelude.{Some, None, IsTrue, slice_get}
-use Rattle.kl_model.specs.Carries.{Carries, Names}
+use Rattle.kl_model.specs.Carries.{Carries, NamesPieces}
 use Rattle.kl_base.specs.declared.limits.TheConstants.{SPAN_LIMIT}
 use Rattle.kl_model.specs.Faults.{link_fault, resolve_fault, range_faults}
 use Rattle.kl_model.specs.Fit.{AreFit, IsKernelKit}
@@ -39,9 +39,9 @@ module _ (kit : Kit) (inputs : List Input) (order : List ℕ) (kernel : IsKernel
     graph_writable = rw is (writable kit inputs fit (simple_kit kit inputs simple) (sound-fields kit inputs sound))
 
     pub span_fault : (e : LayoutFault) → layout_fault (span kit g None order no_made) ≡ Some e → link_fault kit inputs None order ≡ Some (as_link_fault e)
-    span_fault e h = of_span kit inputs order sound (rw is at graph_writable) e (rw is at h)
+    span_fault e h = of_span kit inputs order kernel.kernel sound (rw is at graph_writable) e (rw is at h)
 
-    module _ (p : Placement) (laid : Laid p kit g None order no_made) (names : Names p g None) (placed_so : p ≡ placed kit g None order no_made)
+    module _ (p : Placement) (laid : Laid p kit g None order no_made) (names : NamesPieces p g None) (placed_so : p ≡ placed kit g None order no_made)
         (small : span kit g None order no_made ≤ SPAN_LIMIT) where
       pub stands : StandInText p g
       stands = stand_in_text kit g order p kernel graph_simple graph_order laid names placed_so small
@@ -50,7 +50,7 @@ module _ (kit : Kit) (inputs : List Input) (order : List ℕ) (kernel : IsKernel
       only = only_text kit g order p kernel graph_simple graph_order laid names placed_so small
 
       pub range_is : link_fault kit inputs None order ≡ slice_get (range_faults p g) 0
-      range_is = rw is (of_range kit inputs order sound (rw is at graph_writable) p (rw is at placed_so) (rw is at small))
+      range_is = rw is (of_range kit inputs order kernel.kernel sound (rw is at graph_writable) p (rw is at placed_so) (rw is at small))
 
       module _ (img : List ℕ) (image : IsTextImage img p inputs g) where
         pub none_stands : link_fault kit inputs None order ≡ None

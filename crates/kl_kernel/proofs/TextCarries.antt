@@ -1,6 +1,6 @@
 -- An image of a graph of text that is laid out carries the graph.
-use Rattle.std.proofs.Common.{ℕ, zero, suc, ◌≡◌, ◌+◌, ◌%◌, ◌^◌, ◌<◌, ◌≤◌, ◌∙◌, List, [], ◌∷◌, length, get_or, refl, ap, subst, arith, inl, inr, ◌⊎◌, true, false}
-use Rattle.std.specs.Prelude.{Some, None, All}
+use Rattle.std.proofs.Common.{ℕ, zero, suc, ◌≡◌, ◌+◌, ◌%◌, ◌^◌, ◌<◌, ◌≤◌, ◌∙◌, List, [], ◌∷◌, length, get_or, refl, ap, subst, sym, arith, inl, inr, ◌⊎◌, true, false}
+use Rattle.std.specs.Prelude.{Some, None, All, filter, map}
 use Rattle.std.proofs.lemmas.Bool.{cases_lt}
 use Rattle.std.proofs.lemmas.List.{append-nil, get_or_default}
 use Rattle.kl_le.specs.Bytes.{Within}
@@ -8,16 +8,19 @@ use Rattle.kl_base.specs.declared.class.Class.{Class}
 use Rattle.kl_base.specs.declared.class.Class.TheVariants.{Text, Rodata, Rwdata, Bss}
 use Rattle.kl_model.specs.Lists.{each}
 use Rattle.kl_model.specs.Areas.{class_number}
-use Rattle.kl_model.specs.Line.{every_part, line, same_target, made_of, piece_part, slots, slots_after}
-use Rattle.kl_model.specs.Relocations.{is_slot_kind}
+use Rattle.kl_model.specs.Line.{every_part, line, piece_part}
+use Rattle.kl_model.specs.Sizes.{made_of, page_of}
+use Rattle.kl_model.specs.Slots.{same_target, slots, takes_slot, way_of}
+use Rattle.kl_model.specs.Lists.{once}
 use Rattle.kl_model.specs.Fit.{IsKernelKit}
 use Rattle.kl_model.specs.Laid.{AreasStand, IsArea, Laid, area_at, place_of, span}
 use Rattle.kl_model.specs.Memory.{mem}
 use Rattle.kl_model.specs.Reaches.{ReachesDirectly, value}
 use Rattle.kl_model.specs.Relocations.{in_range}
-use Rattle.kl_model.specs.Carries.{Apart, CarriesGraph, Contents, FieldReaches, Holds, InArea, InPart, Names, Padded, Reached, address_of, padding, piece_at, no_piece}
+use Rattle.kl_model.specs.Carries.{Apart, CarriesGraph, Contents, FieldReaches, File, HasByte, InArea, InPart, LeadsBy, MadeHolds, NamesPieces, Padded, Reached, head_for, kernel_places, no_piece, padding, piece_at, segments_for}
+use Rattle.kl_model.specs.Leads.{address_of}
 use Rattle.kl_base.specs.declared.limits.TheConstants.{SPAN_LIMIT}
-use Rattle.kl_model.specs.Faults.{field_address, value_target}
+use Rattle.kl_model.specs.Leads.{field_address, value_target}
 use Rattle.kl_model.specs.Orders.{IsOrder, drawn_count}
 use Rattle.kl_model.specs.Placed.{placed}
 use Rattle.kl_model.specs.Simple.{IsSimpleField, IsSimpleGraph, IsSimpleTarget, IsWritable}
@@ -37,32 +40,30 @@ use Rattle.kl_model.proofs.InOrder.{get_found}
 use Rattle.kl_layout.specs.Spans.{no_made}
 use Rattle.kl_layout.proofs.Lines.{spreads_text}
 use Rattle.kl_kernel.specs.TextImage.{HoldsValue, InNoPiece, IsTextImage, OnlyText, StandInText, file_place, stands_at}
-use Rattle.kl_kernel.proofs.FieldValues.{target-value, wide}
+use Rattle.kl_kernel.proofs.FieldValues.{directly, target-value, wide}
 use Rattle.kl_kernel.proofs.TextLaid.{classes_in_order, only_text, piece_aligned, piece_in_line, pieces_apart, stand_in_text}
+use Rattle.kl_model.proofs.Kernels.{kernel_made, of_laid}
+use Rattle.kl_model.specs.declared.kit.KitKind.TheVariants.{Kernel}
 
 -- no field needs a slot
-no_slot_kind : (kind : ℕ) → (kind ≡ 1) ⊎ ((kind ≡ 2) ⊎ (kind ≡ 4)) → is_slot_kind kind ≡ false
-no_slot_kind kind (inl e) = rw e refl
-no_slot_kind kind (inr (inl e)) = rw e refl
-no_slot_kind kind (inr (inr e)) = rw e refl
-
-no_slots_after : (g : Graph) (seen : List Target) (fs : List Field) → All (IsSimpleField g) fs → slots_after seen fs ≡ []
-no_slots_after g seen [] h = refl
-no_slots_after g seen (f ∷ fs) h =
-    rw (no_slot_kind f.kind (h 0 f (omega arith)).kind) (no_slots_after g seen fs (λ k d l. h (suc k) d (omega arith)))
+no_slot_fields : (g : Graph) (fs : List Field) → All (IsSimpleField g) fs → filter (λ f. takes_slot (way_of f)) fs ≡ []
+no_slot_fields g [] h = refl
+no_slot_fields g (f ∷ fs) h =
+    let first = h 0 f (omega arith) in
+    rw (directly g f.kind f.target first.kind first.target) (no_slot_fields g fs (λ k d l. h (suc k) d (omega arith)))
 
 pub no_slots : (inputs : List Input) (g : Graph) → IsWritable inputs g → slots g ≡ []
-no_slots inputs g writable = no_slots_after g [] g.fields writable.fields
+no_slots inputs g writable = ap (λ fs. once same_target (map (λ (f : Field). f.target) fs)) (no_slot_fields g g.fields writable.fields)
 
-pub nothing_made : (kit : Kit) (inputs : List Input) (g : Graph) → IsWritable inputs g → made_of kit g ≡ no_made
-nothing_made kit inputs g writable = rw (no_slots inputs g writable) refl
+pub nothing_made : (kit : Kit) (inputs : List Input) (g : Graph) → kit.kind ≡ Kernel → IsWritable inputs g → made_of kit g ≡ no_made
+nothing_made kit inputs g kernel writable = kernel_made kit kernel g ∙ rw (no_slots inputs g writable) refl
 
 -- no area past text has a byte where it starts and ends at one place
 same_ends : (p : Placement) (n s : ℕ) → IsArea p n s s → (area_at p n).start ≡ (area_at p n).end
 same_ends p n s i = rw (get_found p.areas n (record { start = s % 2 ^ 64; end = s % 2 ^ 64 }) i) refl
 
 module _ (kit : Kit) (inputs : List Input) (g : Graph) (order : List ℕ) (p : Placement) (fit : IsKernelKit kit) (simple : IsSimpleGraph kit g) (o : IsOrder (drawn_count g.parts) order)
-    (laid : Laid p kit g None order no_made) (names : Names p g None) (is : p ≡ placed kit g None order no_made) (small : span kit g None order no_made ≤ SPAN_LIMIT)
+    (laid : Laid p kit g None order no_made) (names : NamesPieces p g None) (is : p ≡ placed kit g None order no_made) (small : span kit g None order no_made ≤ SPAN_LIMIT)
     (writable : IsWritable inputs g) where
   stand : StandInText p g
   stand = stand_in_text kit g order p fit simple o laid names is small
@@ -108,7 +109,7 @@ module _ (kit : Kit) (inputs : List Input) (g : Graph) (order : List ℕ) (p : P
 
   no_nops : (a : ℕ) → InArea p 4 a ⊎ InArea p 5 a → ⊥
   no_nops a w =
-      let areas = subst (AreasStand p (place_of p g) kit.base) (spreads_text kit g simple order) laid.text.areas in
+      let areas = subst (AreasStand p (place_of p g) kit.base) (spreads_text kit g simple order) (of_laid p kit g None order no_made simple.kernel laid).text.areas in
       let init = same_ends p 4 _ areas.2.1 in
       let fini = same_ends p 5 _ areas.2.2.1 in
       elim w [
@@ -157,19 +158,12 @@ module _ (kit : Kit) (inputs : List Input) (g : Graph) (order : List ℕ) (p : P
           (rw (target-value p g f s, no_wrap) at fits)
           (rw (place_at f.piece f.offset s.piece, no_wrap) at hold.bytes)
 
-      reaches_target : (t : Target) → f.target ≡ t → IsSimpleTarget g t → FieldReaches img p g f t false
-      reaches_target (Place n j) e h = rw e at direct
-      reaches_target (Abs n) e h = rw e at direct
-      reaches_target (Edge n b) e h = absurd h
-      reaches_target (Name n) e h = absurd h
-      reaches_target Zero e h = rw e at direct
-      reaches_target Gone e h = absurd h
-
-      reaches : FieldReaches img p g f f.target (is_slot_kind f.kind)
-      reaches = rw (no_slot_kind f.kind s.kind) (reaches_target f.target refl s.target)
+      reaches : FieldReaches img p g f f.target
+      reaches =
+          subst (λ w. LeadsBy (mem img) (kernel_places p g) (stands_at p f.piece + f.offset) f f.target w) (sym (directly g f.kind f.target s.kind s.target)) direct
 
     -- each field reaches its target
-    reached : Reached img p g
+    reached : All (λ f. FieldReaches img p g f f.target) g.fields
     reached k d h = reaches (get_or g.fields k d) (writable.fields k d h) (image.hold k d h)
 
     -- what is in no piece is padding
@@ -184,7 +178,7 @@ module _ (kit : Kit) (inputs : List Input) (g : Graph) (order : List ℕ) (p : P
           ]
         ]
 
-    plain : (c : Class) (a : ℕ) → InArea p (class_number c) a → ¬ InPart p g (line kit g None order no_made c) a → Holds img a (padding c) c
+    plain : (c : Class) (a : ℕ) → InArea p (class_number c) a → ¬ InPart p g (line kit g None order no_made c) a → HasByte img a (padding c) c
     plain Text a w free =
         mem_file img p Text a ordered image.segments refl w ∙ ap (λ b. Some (record { byte = b; flags = 5 })) (image.padding a w (in_no_piece a w free))
     plain Rodata a w free = absurd (omega (arith, only.0, w.0, w.1))
@@ -199,15 +193,18 @@ module _ (kit : Kit) (inputs : List Input) (g : Graph) (order : List ℕ) (p : P
 
     pub carries : CarriesGraph img p kit inputs g None order
     carries =
-        let made = nothing_made kit inputs g writable in
+        let made = nothing_made kit inputs g simple.kernel writable in
+        let kind = simple.kernel in
+        let size = page_of kit g in
         record {
           laid = rw made laid;
-          small = rw (no_slots inputs g writable) small;
+          small = rw made small;
           names = names;
-          apart = rw (no_slots inputs g writable) apart_pieces;
+          apart = rw made apart_pieces;
           contents = contents;
-          reached = reached;
-          slot_bytes = rw (no_slots inputs g writable) (λ k h. absurd (omega arith));
+          reached = subst (λ k. Reached k img p inputs g size (span kit g None order (made_of kit g))) (sym kind) reached;
+          made = subst (λ k. MadeHolds k img p kit inputs g) (sym kind) (rw (no_slots inputs g writable) (λ k h. absurd (omega arith)));
           padded = rw made padded;
-          file = record { head = image.head; segments = image.segments; len = image.len; zeros = image.zeros };
+          file = subst (λ k. File img (head_for k (segments_for k size p) p g) (segments_for k size p)) (sym kind)
+              (record { head = image.head; segments = image.segments; len = image.len; zeros = image.zeros });
         }

@@ -15,8 +15,10 @@ use Rattle.kl_model.specs.Line.{line, spreads}
 use Rattle.kl_model.specs.Fit.{IsKernelKit}
 use Rattle.kl_model.specs.Lists.{each}
 use Rattle.std.proofs.lemmas.List.Elements.{All-append}
-use Rattle.kl_model.specs.Laid.{Laid, ClassLaid, class_end, IsArea, Stand, area_at, end_of, no_area, page, place_of, reach, span, start_of, up}
-use Rattle.kl_model.specs.Carries.{Names, InPart, class_size, piece_at, no_piece}
+use Rattle.kl_model.specs.Laid.{Laid, ClassLaid, class_end, IsArea, Stand, area_at, end_of, no_area, place_of, reach, span, start_of}
+use Rattle.kl_base.specs.declared.limits.TheConstants.{PAGE}
+use Rattle.kl_model.specs.Lists.{up}
+use Rattle.kl_model.specs.Carries.{NamesPieces, InPart, class_size, piece_at, no_piece}
 use Rattle.kl_base.specs.declared.limits.TheConstants.{SPAN_LIMIT}
 use Rattle.kl_model.specs.Orders.{IsOrder, drawn_count}
 use Rattle.kl_model.specs.Placed.{placed, stop_in}
@@ -29,7 +31,7 @@ use Rattle.kl_model.specs.declared.place.Placement.{Placement}
 use Rattle.kl_model.specs.declared.graph.Piece.{Piece}
 use Rattle.kl_model.specs.declared.graph.Graph.{Graph}
 use Rattle.kl_model.specs.declared.kit.Kit.{Kit}
-use Rattle.kl_model.proofs.InOrder.{Aligned, IsLaidFrom, area_is, areas-stand, class_is, end-reach, get_found, in_order, le-start}
+use Rattle.kl_model.proofs.InOrder.{Aligned, IsLaidFrom, area_is, areas-stand, class_is, end-reach, get_found, laid_in_order, le-start}
 use Rattle.kl_model.proofs.ClassMemory.{InOrder}
 use Rattle.kl_model.proofs.Carried.{part_within, parts_apart}
 use Rattle.kl_model.proofs.Covered.{In, here, there, in_line, index_of, part_of}
@@ -39,6 +41,7 @@ use Rattle.kl_layout.specs.Spans.{no_made}
 use Rattle.kl_layout.specs.TextLine.{text_line}
 use Rattle.kl_layout.proofs.Lines.{aligned_parts, line_bss, line_pieces, line_rodata, line_rwdata, line_text}
 use Rattle.kl_kernel.specs.TextImage.{OnlyText, StandInText, stands_at}
+use Rattle.kl_model.proofs.Kernels.{KernelLaid, kernel_from, kernel_page, of_laid}
 
 -- what a list has at some place is in it
 in_from_contains : (xs : List ℕ) (x : ℕ) → Contains xs x → In x xs
@@ -81,7 +84,10 @@ number_of (body.Gap c) = 0
 number_of (body.Area n) = 0
 
 module _ (kit : Kit) (g : Graph) (order : List ℕ) (p : Placement) (fit : IsKernelKit kit) (simple : IsSimpleGraph kit g) (o : IsOrder (drawn_count g.parts) order)
-    (laid : Laid p kit g None order no_made) (names : Names p g None) (is : p ≡ placed kit g None order no_made) (small : span kit g None order no_made ≤ SPAN_LIMIT) where
+    (is_laid : Laid p kit g None order no_made) (names : NamesPieces p g None) (is : p ≡ placed kit g None order no_made) (small : span kit g None order no_made ≤ SPAN_LIMIT) where
+  laid : KernelLaid p kit g None order no_made
+  laid = of_laid p kit g None order no_made simple.kernel is_laid
+
   abbrev at : Body → ℕ
   at = place_of p g
 
@@ -99,10 +105,10 @@ module _ (kit : Kit) (g : Graph) (order : List ℕ) (p : Placement) (fit : IsKer
 
   -- the classes stand one behind another
   pub classes_in_order : InOrder p
-  classes_in_order = in_order p kit g None order no_made laid small fit.base_limit aligned
+  classes_in_order = laid_in_order p kit g None order no_made is_laid small fit.base_limit aligned
 
   below : reach kit.base text ≤ kit.base + SPAN_LIMIT
-  below = let whole : up (up (up (reach kit.base (text_line g order)) page) page) page - kit.base ≤ SPAN_LIMIT = (rw (line_text kit g simple order, line_rodata kit g simple order, line_rwdata kit g simple order, line_bss kit g simple order) at small) in
+  below = let whole : up (up (up (reach kit.base (text_line g order)) PAGE) PAGE) PAGE - kit.base ≤ SPAN_LIMIT = (rw (line_text kit g simple order, line_rodata kit g simple order, line_rwdata kit g simple order, line_bss kit g simple order, kernel_from kit simple.kernel g, kernel_page kit simple.kernel g) at small) in
       rw (line_text kit g simple order) (omega (arith, whole))
 
   text_is : IsLaidFrom p kit g None order no_made Text kit.base
@@ -243,11 +249,11 @@ module _ (kit : Kit) (g : Graph) (order : List ℕ) (p : Placement) (fit : IsKer
       let text_start = order_ok.base in
       let text_ordered = order_ok.text in
       let r = up_page-lt (area_at p 0).end in
-      let rodata = empty_class Rodata (up (class_end p Text) page) laid.rodata (line_rodata kit g simple order) (omega arith) (omega arith) in
+      let rodata = empty_class Rodata (up (class_end p Text) PAGE) laid.rodata (line_rodata kit g simple order) (omega arith) (omega arith) in
       let w = up_page-lt (area_at p 1).end in
       let rodata_end = rodata.1 in
-      let rwdata = empty_class Rwdata (up (class_end p Rodata) page) laid.rwdata (line_rwdata kit g simple order) (omega arith) (omega arith) in
+      let rwdata = empty_class Rwdata (up (class_end p Rodata) PAGE) laid.rwdata (line_rwdata kit g simple order) (omega arith) (omega arith) in
       let z = up_page-lt (area_at p 2).end in
       let rwdata_end = rwdata.1 in
-      let bss = empty_class Bss (up (class_end p Rwdata) page) laid.bss (line_bss kit g simple order) (omega arith) (omega arith) in
+      let bss = empty_class Bss (up (class_end p Rwdata) PAGE) laid.bss (line_bss kit g simple order) (omega arith) (omega arith) in
       (rodata.0, (rwdata.0, bss.0))

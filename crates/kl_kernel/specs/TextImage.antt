@@ -2,17 +2,20 @@
 use Rattle.std.specs.Prelude.{ℕ, ◌+◌, ◌-◌, ◌*◌, ◌^◌, ◌%◌, ◌≡◌, ◌≤◌, ◌<◌, ◌⊎◌, true, cond, not, pos, ◌==◌, List, length, slice_index, slice_index_or, All}
 use Rattle.std.specs.Option.{option_map_or}
 use Rattle.kl_le.specs.Bytes.{num, Outside}
-use Rattle.kl_model.specs.Laid.{page, unwrapped, area_at, no_area, no_placed}
+use Rattle.kl_model.specs.Laid.{unwrapped, area_at, no_area, no_placed}
+use Rattle.kl_base.specs.declared.limits.TheConstants.{PAGE}
 use Rattle.kl_model.specs.Reaches.{value}
 use Rattle.kl_model.specs.Relocations.{width}
 use Rattle.kl_elf.specs.Records.{ehdr_at}
 use Rattle.kl_elf.specs.declared.records.Ehdr.{Ehdr}
 use Rattle.kl_model.specs.Memory.{segments}
-use Rattle.kl_model.specs.Carries.{InArea, InField, address_of, class_size, content, ends_at, kernel_head, piece_at, segments_of}
+use Rattle.kl_model.specs.Carries.{InArea, InField, class_size, content, ends_at, kernel_head, piece_at, segments_of}
+use Rattle.kl_model.specs.Leads.{address_of}
 use Rattle.kl_base.specs.declared.limits.TheConstants.{BASE_LIMIT, SPAN_LIMIT}
 use Rattle.kl_base.specs.declared.class.Class.TheVariants.{Rodata, Rwdata, Bss}
 use Rattle.kl_model.specs.Lists.{only_if}
-use Rattle.kl_model.specs.Faults.{does_fit, field_address, value_target}
+use Rattle.kl_model.specs.Faults.{does_fit}
+use Rattle.kl_model.specs.Leads.{field_address, value_target}
 use Rattle.kl_model.specs.declared.graph.Target.TheVariants.{Zero}
 use Rattle.kl_model.specs.declared.link.LinkFault.{LinkFault}
 use Rattle.kl_model.specs.declared.link.LinkFault.TheVariants as fault
@@ -30,7 +33,7 @@ abbrev pub stands_at : Placement → ℕ → ℕ
 stands_at p n = unwrapped p (slice_index_or p.pieces n no_placed).address
 
 abbrev pub file_place : Placement → ℕ → ℕ
-file_place p a = page + (a - p.base)
+file_place p a = PAGE + (a - p.base)
 
 -- the pieces of a graph stand in text, each apart from the others
 pub record StandInText (p : Placement) (g : Graph) : Type 0 where

@@ -1,7 +1,8 @@
 // The image of a kernel whose only bytes are those of text.
 ghost use Rattle.std.specs.Prelude.{List, ◌≡◌, ◌⊎◌, ◌+◌, ◌-◌, ◌*◌, ◌<◌, ◌≤◌, ◌^◌, ◌∷◌, [], Some, length, slice_get, IfErr, IfOk, OnOk};
 ghost use Rattle.kl_elf.specs.Records.{ehdr_at, phdrs_from};
-ghost use Rattle.kl_model.specs.Laid.{area_at, page};
+ghost use Rattle.kl_model.specs.Laid.{area_at};
+ghost use Rattle.kl_base.specs.declared.limits.TheConstants.{PAGE};
 ghost use Rattle.kl_model.specs.Carries.{segment_of};
 ghost use Rattle.kl_base.specs.declared.limits.TheConstants.{SPAN_LIMIT};
 ghost use Rattle.kl_model.specs.Faults.{range_faults};
@@ -58,7 +59,7 @@ fn entry_of(graph: &Graph, placement: &Placement) -> u64
 /// Zero bytes up to `from`, and the padding of text from there up to `to`.
 fn padded(alloc: Global, from: usize, to: usize) -> Result<Vec<u8>, NoMemory>
     requires order { from ≤ to }
-    requires limit { to ≤ page + SPAN_LIMIT }
+    requires limit { to ≤ PAGE + SPAN_LIMIT }
     ensures { IfOk result (λ v. IsPadding v.items from to) }
 {
     let mut image = vec![in alloc; 0; from]?;
@@ -101,7 +102,7 @@ fn text_segment(start: u64, from: usize, to: usize) -> Phdr
     ensures offset { result.offset ≡ from }
     ensures address { (result.vaddr ≡ start) × (result.paddr ≡ start) }
     ensures size { (result.filesz ≡ to - from) × (result.memsz ≡ to - from) }
-    ensures align { result.align ≡ page }
+    ensures align { result.align ≡ PAGE }
 {
     let size = (to - from) as u64;
     Phdr {
@@ -156,7 +157,7 @@ fn full_image(
 }
 
 /// The image of a graph of text (gABI, "Program Header"): the file header and a program header for text, if text has a
-/// byte, which stands in the file a page past its place behind the base.
+/// byte, which stands in the file a PAGE past its place behind the base.
 ///
 /// # Errors
 ///

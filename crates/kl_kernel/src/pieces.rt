@@ -1,6 +1,7 @@
 // The bytes of pieces.
 ghost use Rattle.std.specs.Prelude.{ℕ, ◌≡◌, ◌+◌, ◌<◌, ◌≤◌, length, slice_index, All};
-ghost use Rattle.kl_model.specs.Laid.{area_at, page};
+ghost use Rattle.kl_model.specs.Laid.{area_at};
+ghost use Rattle.kl_base.specs.declared.limits.TheConstants.{PAGE};
 ghost use Rattle.kl_model.specs.Reaches.{less};
 ghost use Rattle.kl_base.specs.declared.limits.TheConstants.{SPAN_LIMIT};
 ghost use Rattle.kl_model.specs.Simple.{IsSourced};
@@ -12,10 +13,10 @@ use kl_base::PAGE;
 use kl_le::put_bytes;
 use kl_model::{Graph, Input, PieceId, Placement};
 
-/// Where an address stands in the file of an image: a page past its place behind the base.
+/// Where an address stands in the file of an image: a PAGE past its place behind the base.
 pub fn file_place(base: u64, address: u64) -> usize
     requires { less address base ≤ SPAN_LIMIT }
-    ensures { result ≡ page + less address base }
+    ensures { result ≡ PAGE + less address base }
 {
     (PAGE + address.wrapping_sub(base)) as usize
 }

@@ -5,7 +5,7 @@ use Rattle.std.proofs.Math.Nat.{mod-mod}
 use Rattle.std.proofs.lemmas.List.{get_or-set_same, get_or-set_other}
 use Rattle.std.proofs.lemmas.Map.Keys.{IsDistinct-head}
 use Rattle.std.proofs.lemmas.Bool.{eqb-false, cases_eq}
-use Rattle.kl_model.specs.Laid.{up}
+use Rattle.kl_model.specs.Lists.{up}
 use Rattle.kl_model.specs.Placed.{same_body, stop_of}
 use Rattle.kl_model.specs.declared.place.Body.TheVariants as body
 use Rattle.kl_model.specs.declared.place.LinePart.{LinePart}

@@ -13,7 +13,7 @@ use Rattle.kl_model.specs.Line.{Spread, spreads, line, sequence, piece_part, pie
 use Rattle.kl_model.specs.Simple.{IsSimpleGraph}
 use Rattle.kl_model.specs.Orders.{drawn_count, IsOrder}
 use Rattle.kl_model.specs.Placed.{same_body, stop_of}
-use Rattle.kl_model.specs.Laid.{up}
+use Rattle.kl_model.specs.Lists.{up}
 use Rattle.kl_model.specs.Carries.{no_piece}
 use Rattle.kl_model.specs.declared.graph.Piece.{Piece}
 use Rattle.kl_model.specs.declared.graph.PieceId.{PieceId}
@@ -29,6 +29,8 @@ use Rattle.kl_layout.specs.Spans.{no_made}
 use Rattle.kl_layout.proofs.Standing.{body_from_same, stop_further}
 use Rattle.kl_layout.proofs.Enumerated.{passing_holds, passing_none, distinct_passing, distinct_joined, all_joined}
 use Rattle.kl_layout.proofs.Sequences.{sequence_distinct, sequence_joined}
+use Rattle.kl_model.specs.Line.{got_spread}
+use Rattle.kl_model.specs.declared.kit.KitKind.TheVariants.{Kernel}
 
 -- the number of a piece, and the input that it comes from
 body_number : Body → ℕ
@@ -176,12 +178,16 @@ module _ (kit : Kit) (g : Graph) (simple : IsSimpleGraph kit g) where
   pub spreads_text : (order : List ℕ) → spreads kit g None order no_made Text ≡ plain (text_line g order) ∷ empty 4 ∷ empty 5 ∷ empty 6 ∷ []
   spreads_text order = rw (simple.no_runs, sequence_joined g order (of_input g Text 0), area_none 4 (omega arith), area_none 5 (omega arith)) refl
 
+  -- the global offset table of a kernel stands in rodata
+  got_of : (c : Class) → got_spread kit.kind no_made c ≡ got_spread Kernel no_made c
+  got_of c = ap (λ k. got_spread k no_made c) simple.kernel
+
   pub spreads_rodata : (order : List ℕ) → spreads kit g None order no_made Rodata ≡ plain [] ∷ empty 7 ∷ empty 8 ∷ empty 13 ∷ []
-  spreads_rodata order = rw (simple.no_runs, other_sequence order Rodata refl, area_none 7 (omega arith)) refl
+  spreads_rodata order = rw (simple.no_runs, other_sequence order Rodata refl, area_none 7 (omega arith), got_of Rodata) refl
 
   pub spreads_rwdata : (order : List ℕ) → spreads kit g None order no_made Rwdata ≡ plain [] ∷ empty 9 ∷ empty 10 ∷ empty 11 ∷ empty 12 ∷ empty 14 ∷ []
   spreads_rwdata order =
-      rw (simple.no_runs, other_sequence order Rwdata refl, area_none 9 (omega arith), area_none 10 (omega arith), area_none 11 (omega arith), area_none 12 (omega arith)) refl
+      rw (simple.no_runs, other_sequence order Rwdata refl, area_none 9 (omega arith), area_none 10 (omega arith), area_none 11 (omega arith), area_none 12 (omega arith), got_of Rwdata) refl
 
   pub spreads_bss : (order : List ℕ) → spreads kit g None order no_made Bss ≡ plain [] ∷ plain [] ∷ []
   spreads_bss order = rw (simple.no_runs, other_sequence order Bss refl, commons_none) refl

@@ -10,9 +10,10 @@ use Rattle.kl_base.specs.declared.class.Class.TheVariants.{Text, Rodata, Rwdata,
 use Rattle.kl_model.specs.Areas.{same_class}
 use Rattle.kl_model.specs.Line.{Spread, piece_part, is_of_input}
 use Rattle.kl_model.specs.Lists.{each_from, only_if}
-use Rattle.kl_model.specs.Laid.{up, unwrapped, area_at, no_placed, place_of, Stand, start_of, end_of, AreasStand, IsArea, ClassLaid, Laid, reach, span}
+use Rattle.kl_model.specs.Laid.{unwrapped, area_at, no_placed, place_of, Stand, start_of, end_of, AreasStand, IsArea, ClassLaid, Laid, reach, span}
+use Rattle.kl_model.specs.Lists.{up}
 use Rattle.kl_model.specs.Placed.{placed, same_body, stop_of, first_stop}
-use Rattle.kl_model.specs.Carries.{Names, no_piece}
+use Rattle.kl_model.specs.Carries.{NamesPieces, no_piece}
 use Rattle.kl_base.specs.declared.limits.TheConstants.{SPAN_LIMIT}
 use Rattle.kl_model.specs.Fit.{IsKernelKit}
 use Rattle.kl_model.specs.Orders.{drawn_count, IsOrder}
@@ -34,6 +35,7 @@ use Rattle.kl_layout.proofs.Standing.{same_body_itself, stop_here, stop_further,
 use Rattle.kl_layout.proofs.Lines.{line_pieces, aligned_parts, spreads_text, spreads_rodata, spreads_rwdata, line_text, line_rodata, line_rwdata, line_bss}
 use Rattle.kl_layout.proofs.TextPlaced.{text_placed, placed_is, span_is, placed_name, piece_name}
 use Rattle.kl_layout.proofs.Sequences.{sequence_joined}
+use Rattle.kl_model.proofs.Kernels.{KernelLaid, of_laid}
 
 -- what a list contains is in it
 in_from_contains : {X : Type 0} (xs : List X) (x : X) (k : ℕ) → k < length xs → get_or xs k x ≡ x → In x xs
@@ -89,8 +91,11 @@ pieces_same address n (q ∷ ps) (x ∷ xs) e h =
     ∙ ap (λ l. record { id = x.id; address = address n; size = x.size } ∷ l) rest))
 
 module _ (kit : Kit) (g : Graph) (order : List ℕ) (p : Placement) (kernel : IsKernelKit kit) (simple : IsSimpleGraph kit g)
-    (o : IsOrder (drawn_count g.parts) order) (small : span kit g None order no_made ≤ SPAN_LIMIT) (words : HasAddresses p) (named : Names p g None)
-    (laid : Laid p kit g None order no_made) where
+    (o : IsOrder (drawn_count g.parts) order) (small : span kit g None order no_made ≤ SPAN_LIMIT) (words : HasAddresses p) (named : NamesPieces p g None)
+    (is_laid : Laid p kit g None order no_made) where
+  laid : KernelLaid p kit g None order no_made
+  laid = of_laid p kit g None order no_made simple.kernel is_laid
+
   abbrev at : Body → ℕ
   at = place_of p g
 

@@ -3,7 +3,7 @@ use Rattle.std.proofs.Common.{ℕ, ◌≡◌, ◌+◌, ◌-◌, ◌*◌, ◌/◌
 use Rattle.std.proofs.Math.Nat.{add-mul-div_right}
 use Rattle.std.proofs.Math.Pow.{pow_mono}
 use Rattle.std.proofs.lemmas.Nat.{div-mul-add, div-add-mod', pow-add}
-use Rattle.kl_model.specs.Laid.{up}
+use Rattle.kl_model.specs.Lists.{up}
 
 -- a multiple stays
 pub up_multiple : (a n : ℕ) → 0 < n → a % n ≡ 0 → a ≡ up a n

@@ -7,7 +7,8 @@ use Rattle.std.specs.List.{AllByRecursion}
 use Rattle.kl_base.specs.declared.class.Class.{Class}
 use Rattle.kl_base.specs.declared.class.Class.TheVariants.{Text, Rodata, Rwdata, Bss}
 use Rattle.kl_model.specs.Areas.{same_class, class_number}
-use Rattle.kl_model.specs.Laid.{up, Stand, start_of, reach}
+use Rattle.kl_model.specs.Laid.{Stand, start_of, reach}
+use Rattle.kl_model.specs.Lists.{up}
 use Rattle.kl_model.specs.Placed.{same_body, stop_of, first_stop}
 use Rattle.kl_model.specs.declared.place.Body.{Body}
 use Rattle.kl_model.specs.declared.place.Body.TheVariants as body

@@ -8,9 +8,11 @@ use Rattle.std.specs.List.{range_with_len}
 use Rattle.kl_base.specs.declared.class.Class.TheVariants.{Text, Rodata, Rwdata, Bss}
 use Rattle.kl_model.specs.Lists.{each, each_from}
 use Rattle.kl_model.specs.Line.{Spread, spreads}
-use Rattle.kl_model.specs.Laid.{up, page, unwrapped, no_placed, place_of, Stand, start_of, end_of, AreasStand, IsArea, ClassLaid, Laid, reach, span, no_area}
+use Rattle.kl_model.specs.Laid.{unwrapped, no_placed, place_of, Stand, start_of, end_of, AreasStand, IsArea, ClassLaid, Laid, reach, span, no_area}
+use Rattle.kl_base.specs.declared.limits.TheConstants.{PAGE}
+use Rattle.kl_model.specs.Lists.{up}
 use Rattle.kl_model.specs.Placed.{placed, stop_of, stop_in, first_stop, extent, extent_of}
-use Rattle.kl_model.specs.Carries.{Names, no_piece}
+use Rattle.kl_model.specs.Carries.{NamesPieces, no_piece}
 use Rattle.kl_base.specs.declared.limits.TheConstants.{SPAN_LIMIT}
 use Rattle.kl_model.specs.Fit.{IsKernelKit}
 use Rattle.kl_model.specs.Orders.{drawn_count, IsOrder}
@@ -32,6 +34,8 @@ use Rattle.kl_layout.specs.TextLine.{text_line, text_areas, address_in, piece_at
 use Rattle.kl_layout.specs.Spans.{no_made}
 use Rattle.kl_layout.proofs.Standing.{stop_within, stand_at_stops, start_is}
 use Rattle.kl_layout.proofs.Lines.{line_pieces, line_once, aligned_parts, stop_of_piece, spreads_text, spreads_rodata, spreads_rwdata, spreads_bss, line_text, line_rodata, line_rwdata, line_bss}
+use Rattle.kl_model.specs.Sizes.{page_of, text_from}
+use Rattle.kl_model.proofs.Kernels.{kernel_from, kernel_page, to_laid}
 
 module _ (kit : Kit) (g : Graph) (order : List ℕ) where
   -- the placement in terms of the line of text
@@ -49,11 +53,11 @@ abbrev parts_of : List Spread → List LinePart
 parts_of ss = flat_map (λ s. s.parts) ss
 
 -- the areas of a placement, where the spreads of each class are given
-abbrev areas_from : ℕ → List Run → List Spread → List Spread → List Spread → List Spread → List AreaAt
-areas_from base runs t r w z =
-    let rodata = up (reach base (parts_of t)) page in
-    let rwdata = up (reach rodata (parts_of r)) page in
-    let bss = up (reach rwdata (parts_of w)) page in
+abbrev areas_from : ℕ → ℕ → List Run → List Spread → List Spread → List Spread → List Spread → List AreaAt
+areas_from n base runs t r w z =
+    let rodata = up (reach base (parts_of t)) n in
+    let rwdata = up (reach rodata (parts_of r)) n in
+    let bss = up (reach rwdata (parts_of w)) n in
     let area = λ (n : ℕ). unwrap_or (option_or (extent_of n base t) (option_or (extent_of n rodata r) (option_or (extent_of n rwdata w) (extent_of n bss z)))) no_area in
     (extent base (parts_of t) ∷ extent rodata (parts_of r) ∷ extent rwdata (parts_of w) ∷ extent bss (parts_of z) ∷ [])
     ++ (map area (range_with_len 4 11) ++ each_from 15 (λ n x. area n ∷ []) runs)
@@ -76,7 +80,7 @@ rwdata_spreads = plain [] ∷ empty 9 ∷ empty 10 ∷ empty 11 ∷ empty 12 ∷
 abbrev bss_spreads : List Spread
 bss_spreads = plain [] ∷ plain [] ∷ []
 
-areas_of_text : (base : ℕ) (l : List LinePart) → areas_from base [] (text_spreads l) rodata_spreads rwdata_spreads bss_spreads ≡ text_areas base l
+areas_of_text : (base : ℕ) (l : List LinePart) → areas_from PAGE base [] (text_spreads l) rodata_spreads rwdata_spreads bss_spreads ≡ text_areas base l
 areas_of_text base l =
     let twice : up (up (reach base l) 4096) 4096 ≡ up (reach base l) 4096 = omega arith in
     rw (append-nil l, twice, twice) refl
@@ -113,7 +117,8 @@ names_of address n (x ∷ xs) = ap (λ l. piece_name x ∷ l) (names_of address 
 module _ (kit : Kit) (g : Graph) (order : List ℕ) (simple : IsSimpleGraph kit g) where
   pub span_is : span kit g None order no_made ≡ up (reach kit.base (text_line g order)) 4096 - kit.base
   span_is =
-      rw (line_text kit g simple order, line_rodata kit g simple order, line_rwdata kit g simple order, line_bss kit g simple order) (omega arith)
+      rw (line_text kit g simple order, line_rodata kit g simple order, line_rwdata kit g simple order, line_bss kit g simple order)
+      (rw (kernel_from kit simple.kernel g, kernel_page kit simple.kernel g) (omega arith))
 
   areas_are : (placed kit g None order no_made).areas ≡ text_areas kit.base (text_line g order)
   areas_are =
@@ -122,20 +127,22 @@ module _ (kit : Kit) (g : Graph) (order : List ℕ) (simple : IsSimpleGraph kit 
       let w = spreads kit g None order no_made Rwdata in
       let z = spreads kit g None order no_made Bss in
       let base = kit.base in
-      let start : (placed kit g None order no_made).areas ≡ areas_from base kit.runs t r w z = refl in
+      let start : (placed kit g None order no_made).areas ≡ areas_from (page_of kit g) (text_from kit g) kit.runs t r w z = refl in
       start
-      ∙ (ap (λ x. areas_from base x t r w z) simple.no_runs
-      ∙ (ap (λ x. areas_from base [] x r w z) (spreads_text kit g simple order)
-      ∙ (ap (λ x. areas_from base [] (text_spreads (text_line g order)) x w z) (spreads_rodata kit g simple order)
-      ∙ (ap (λ x. areas_from base [] (text_spreads (text_line g order)) rodata_spreads x z) (spreads_rwdata kit g simple order)
-      ∙ (ap (λ x. areas_from base [] (text_spreads (text_line g order)) rodata_spreads rwdata_spreads x) (spreads_bss kit g simple order)
-      ∙ areas_of_text base (text_line g order))))))
+      ∙ (ap (λ n. areas_from n (text_from kit g) kit.runs t r w z) (kernel_page kit simple.kernel g)
+      ∙ (ap (λ n. areas_from PAGE n kit.runs t r w z) (kernel_from kit simple.kernel g)
+      ∙ (ap (λ x. areas_from PAGE base x t r w z) simple.no_runs
+      ∙ (ap (λ x. areas_from PAGE base [] x r w z) (spreads_text kit g simple order)
+      ∙ (ap (λ x. areas_from PAGE base [] (text_spreads (text_line g order)) x w z) (spreads_rodata kit g simple order)
+      ∙ (ap (λ x. areas_from PAGE base [] (text_spreads (text_line g order)) rodata_spreads x z) (spreads_rwdata kit g simple order)
+      ∙ (ap (λ x. areas_from PAGE base [] (text_spreads (text_line g order)) rodata_spreads rwdata_spreads x) (spreads_bss kit g simple order)
+      ∙ areas_of_text base (text_line g order))))))))
 
   pieces_are : (placed kit g None order no_made).pieces ≡ (text_placed kit g order).pieces
   pieces_are =
       append-nil (each g.pieces (λ n x. record { id = x.id; address = stop_in kit g None order no_made x.class (body.Piece n); size = x.size } ∷ []))
       ∙ each_same (λ n x. record { id = x.id; address = stop_in kit g None order no_made x.class (body.Piece n); size = x.size }) (piece_placed kit g order) 0 g.pieces
-      (λ k d l. let p = simple.pieces k d l in rw (p.class, line_text kit g simple order) refl)
+      (λ k d l. let p = simple.pieces k d l in rw (p.class, line_text kit g simple order, kernel_from kit simple.kernel g) refl)
 
   pub placed_is : placed kit g None order no_made ≡ text_placed kit g order
   placed_is =
@@ -160,7 +167,7 @@ module _ (kit : Kit) (g : Graph) (order : List ℕ) (simple : IsSimpleGraph kit 
       → span kit g None order no_made ≡ next_multiple_of size 4096
   span_from size m page e = span_is ∙ rw (← e) (omega (arith, page))
 
-  pub names : Names (text_placed kit g order) g None
+  pub names : NamesPieces (text_placed kit g order) g None
   names = names_of (λ n x. address_in kit.base (text_line g order) n) 0 g.pieces ∙ sym (append-nil (map piece_name g.pieces))
 
 -- the placement is laid out
@@ -249,11 +256,11 @@ module _ (kit : Kit) (g : Graph) (order : List ℕ) (kernel : IsKernelKit kit) (
 
   pub laid : Laid (text_placed kit g order) kit g None order no_made
   unfolding next
-  laid = record {
+  laid = to_laid it kit g None order no_made simple.kernel (record {
     base = refl;
     text = text_laid;
     rodata = subst (λ a. ClassLaid it kit g None order no_made Rodata (up a 4096)) (sym text_end) rodata_laid;
     rwdata = subst (λ a. ClassLaid it kit g None order no_made Rwdata a) (sym next_end) rwdata_laid;
     bss = subst (λ a. ClassLaid it kit g None order no_made Bss a) (sym next_end) bss_laid;
     count = rw simple.no_runs refl;
-  }
+  })

@@ -1,6 +1,6 @@
 -- A graph has one placement.
 use Rattle.std.specs.Prelude.{ℕ, ◌^◌, ◌≡◌, ◌<◌, ◌≤◌, List, All, None}
-use Rattle.kl_model.specs.Carries.{Names}
+use Rattle.kl_model.specs.Carries.{NamesPieces}
 use Rattle.kl_base.specs.declared.limits.TheConstants.{SPAN_LIMIT}
 use Rattle.kl_model.specs.Fit.{IsKernelKit}
 use Rattle.kl_model.specs.Laid.{Laid, span}
@@ -20,4 +20,4 @@ HasAddresses p = All (λ x. x.address < 2 ^ 64) p.pieces
 abbrev pub OnePlacement : Type 0
 OnePlacement =
     (kit : Kit) (g : Graph) (order : List ℕ) (p : Placement) → IsKernelKit kit → IsSimpleGraph kit g → IsOrder (drawn_count g.parts) order
-    → span kit g None order no_made ≤ SPAN_LIMIT → HasAddresses p → Names p g None → Laid p kit g None order no_made → p ≡ placed kit g None order no_made
+    → span kit g None order no_made ≤ SPAN_LIMIT → HasAddresses p → NamesPieces p g None → Laid p kit g None order no_made → p ≡ placed kit g None order no_made

@@ -4,7 +4,9 @@ use Rattle.std.specs.List.{IsDistinct}
 use Rattle.kl_base.specs.declared.class.Class.TheVariants.{Text}
 use Rattle.kl_base.specs.declared.limits.TheConstants.{ALIGN_POWER_LIMIT, SIZE_LIMIT}
 use Rattle.kl_model.specs.Line.{inputs_in, of_input}
-use Rattle.kl_model.specs.Laid.{up, page, reach}
+use Rattle.kl_model.specs.Laid.{reach}
+use Rattle.kl_base.specs.declared.limits.TheConstants.{PAGE}
+use Rattle.kl_model.specs.Lists.{up}
 use Rattle.kl_model.specs.Placed.{same_body, stop_of, first_stop}
 use Rattle.kl_model.specs.declared.object.Part.TheVariants.{Head, Drawn, Tail}
 use Rattle.kl_model.specs.declared.graph.Piece.{Piece}
@@ -61,6 +63,6 @@ abbrev pub text_areas : ℕ → List LinePart → List AreaAt
 text_areas from parts =
     let start = first_stop from parts % 2 ^ 64 in
     let end = reach from parts % 2 ^ 64 in
-    let next = up (reach from parts) page % 2 ^ 64 in
+    let next = up (reach from parts) PAGE % 2 ^ 64 in
     record { start = start; end = end } ∷ (replicate 3 (record { start = next; end = next })
     ++ (replicate 3 (record { start = end; end = end }) ++ replicate 8 (record { start = next; end = next })))

@@ -1,8 +1,8 @@
 // The placement of a graph.
 ghost use Rattle.std.specs.Prelude.{ℕ, ◌≡◌, ◌+◌, ◌*◌, ◌<◌, ◌≤◌, ◌⊎◌, None, Some, length, IfOk, IfErr, OnOk, All};
-ghost use Rattle.kl_model.specs.Carries.{Names};
+ghost use Rattle.kl_model.specs.Carries.{NamesPieces};
 ghost use Rattle.kl_model.specs.Fit.{IsKernelKit};
-ghost use Rattle.kl_model.specs.Laid.{Laid, span, page, reach};
+ghost use Rattle.kl_model.specs.Laid.{Laid, span, reach};
 ghost use Rattle.kl_model.specs.Lists.{each};
 ghost use Rattle.kl_model.specs.Orders.{drawn_count, IsOrder};
 ghost use Rattle.kl_model.specs.Placed.{placed};
@@ -19,7 +19,7 @@ use std::alloc::Global;
 
 /// The areas of a kernel that has nothing but text.
 fn areas_of(alloc: Global, from: u64, parts: &[LinePart], size: u64) -> Result<Areas, NoMemory>
-    requires page { (m : ℕ) × (page * m ≡ from) }
+    requires page { (m : ℕ) × (PAGE * m ≡ from) }
     requires aligned { All (λ x. 0 < x.align) parts.now }
     requires reach { from + size ≡ reach from parts.now }
     requires limit { size ≤ SPAN_LIMIT }
@@ -78,7 +78,7 @@ pub fn place(
     requires no_gaps { gaps ≡ None }
     requires no_made { made.now ≡ no_made }
     ensures laid { IfOk result (λ p. Laid p kit.now graph.now None order.now made.now) }
-    ensures names { IfOk result (λ p. Names p graph.now None) }
+    ensures names { IfOk result (λ p. NamesPieces p graph.now None) }
     ensures placed { IfOk result (λ p. p ≡ placed kit.now graph.now None order.now made.now) }
     ensures small { OnOk result (span kit.now graph.now None order.now made.now ≤ SPAN_LIMIT) }
     ensures err { IfErr result (λ e. (e ≡ LayoutFault.NoMemory)

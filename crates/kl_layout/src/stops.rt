@@ -1,6 +1,7 @@
 // Parts that stand one behind another.
 ghost use Rattle.std.specs.Prelude.{◌≡◌, ◌+◌, ◌*◌, ◌<◌, ◌≤◌, ◌^◌, length, IfOk, All};
-ghost use Rattle.kl_model.specs.Laid.{up, reach};
+ghost use Rattle.kl_model.specs.Laid.{reach};
+ghost use Rattle.kl_model.specs.Lists.{up};
 ghost use Rattle.kl_layout.specs.TextLine.{IsPiecePart, AreOnce, AreAddresses};
 ghost use Rattle.kl_base.specs.declared.limits.TheConstants.{ALIGN_LIMIT, FIELD_COUNT_LIMIT, SIZE_LIMIT};
 

@@ -1,12 +1,17 @@
 -- The classes of a laid placement stand one behind another.
 use Rattle.std.proofs.Common.{ℕ, zero, suc, ◌≡◌, ◌+◌, ◌-◌, ◌%◌, ◌^◌, ◌<◌, ◌≤◌, ◌∙◌, List, [], ◌∷◌, ◌++◌, get_or, refl, ap, arith, Option}
-use Rattle.std.specs.Prelude.{Some, slice_get, flat_map}
-use Rattle.std.proofs.Math.Nat.{lt-div-mul-add}
+use Rattle.std.specs.Prelude.{Some, slice_get, flat_map, fold, max}
+use Rattle.std.proofs.Math.Nat.{lt-div-mul-add, le-max_left}
 use Rattle.kl_model.specs.Areas.{class_number}
 use Rattle.kl_model.specs.Line.{line, Spread, spreads}
-use Rattle.kl_base.specs.declared.limits.TheConstants.{SPAN_LIMIT}
+use Rattle.kl_base.specs.declared.limits.TheConstants.{BASE_LIMIT, PAGE, SPAN_LIMIT}
 use Rattle.kl_model.specs.declared.place.Made.{Made}
-use Rattle.kl_model.specs.Laid.{up, area_at, no_area, place_of, Stand, start_of, end_of, IsArea, AreasStand, Laid, ClassLaid, reach, span}
+use Rattle.kl_model.specs.Sizes.{page_for, page_of, text_from, text_from_for}
+use Rattle.kl_model.specs.declared.kit.KitKind.{KitKind}
+use Rattle.kl_model.specs.declared.kit.KitKind.TheVariants.{Kernel, Library}
+use Rattle.kl_model.specs.declared.graph.Piece.{Piece}
+use Rattle.kl_model.specs.Lists.{up}
+use Rattle.kl_model.specs.Laid.{area_at, no_area, place_of, Stand, start_of, end_of, IsArea, AreasStand, Laid, ClassLaid, reach, span}
 use Rattle.kl_model.proofs.Addresses.{unwrapped-mod}
 use Rattle.kl_model.proofs.ClassMemory.{InOrder}
 use Rattle.kl_base.specs.declared.class.Class.{Class}
@@ -77,29 +82,52 @@ class_is p kit g gaps order made c from l a b f h =
     (omega (arith, s.0)) (omega (arith, s.1, e)) (omega (arith, e)) in
     record { start = omega (arith, both.0, s.0); ordered = omega (arith, both.0, both.1, s.1, e); ends = both.1 ∙ e }
 
+le-fold : (n : ℕ) (xs : List Piece) → n ≤ fold (λ n x. max n x.align) n xs
+le-fold n [] = omega arith
+le-fold n (x ∷ xs) = omega (arith, le-max_left n x.align, le-fold (max n x.align) xs)
+
+-- a page has a byte, and text isn't laid before the base
+pub page-pos : (kit : Kit) (g : Graph) → 0 < page_of kit g
+page-pos kit g = go kit.kind
+  where
+    go : (k : KitKind) → 0 < page_for k g
+    go Kernel = omega arith
+    go Library = omega (arith, le-fold PAGE g.pieces)
+
+pub base-le : (kit : Kit) (g : Graph) → kit.base ≤ text_from kit g
+base-le kit g = go kit.kind
+  where
+    go : (k : KitKind) → kit.base ≤ text_from_for k kit.base g
+    go Kernel = omega arith
+    go Library = omega arith
+
 -- the classes of a laid placement are in order
-pub in_order : (p : Placement) (kit : Kit) (g : Graph) (gaps : Option Gaps) (order : List ℕ) (made : Made) → Laid p kit g gaps order made → span kit g gaps order made ≤ SPAN_LIMIT
-    → kit.base ≤ 0xffffffffe0000000 → ((c : Class) → Aligned (line kit g gaps order made c)) → InOrder p
-in_order p kit g gaps order made l small limit a =
+pub laid_in_order : (p : Placement) (kit : Kit) (g : Graph) (gaps : Option Gaps) (order : List ℕ) (made : Made) → Laid p kit g gaps order made → span kit g gaps order made ≤ SPAN_LIMIT
+    → kit.base ≤ BASE_LIMIT → ((c : Class) → Aligned (line kit g gaps order made c)) → InOrder p
+laid_in_order p kit g gaps order made l small limit a =
     let base = l.base in
-    let t = reach kit.base (line kit g gaps order made Text) in
-    let r = reach (up t 4096) (line kit g gaps order made Rodata) in
-    let w = reach (up r 4096) (line kit g gaps order made Rwdata) in
-    let z = reach (up w 4096) (line kit g gaps order made Bss) in
-    let lt : kit.base ≤ t = le-reach kit.base (line kit g gaps order made Text) (a Text) in
-    let lr : up t 4096 ≤ r = le-reach (up t 4096) (line kit g gaps order made Rodata) (a Rodata) in
-    let lw : up r 4096 ≤ w = le-reach (up r 4096) (line kit g gaps order made Rwdata) (a Rwdata) in
-    let lz : up w 4096 ≤ z = le-reach (up w 4096) (line kit g gaps order made Bss) (a Bss) in
-    let ut : t ≤ up t 4096 = omega arith in
-    let ur : r ≤ up r 4096 = omega arith in
-    let uw : w ≤ up w 4096 = omega arith in
+    let n = page_of kit g in
+    let pos : 0 < n = page-pos kit g in
+    let from = text_from kit g in
+    let past : kit.base ≤ from = base-le kit g in
+    let t = reach from (line kit g gaps order made Text) in
+    let r = reach (up t n) (line kit g gaps order made Rodata) in
+    let w = reach (up r n) (line kit g gaps order made Rwdata) in
+    let z = reach (up w n) (line kit g gaps order made Bss) in
+    let lt : from ≤ t = le-reach from (line kit g gaps order made Text) (a Text) in
+    let lr : up t n ≤ r = le-reach (up t n) (line kit g gaps order made Rodata) (a Rodata) in
+    let lw : up r n ≤ w = le-reach (up r n) (line kit g gaps order made Rwdata) (a Rwdata) in
+    let lz : up w n ≤ z = le-reach (up w n) (line kit g gaps order made Bss) (a Bss) in
+    let ut : t ≤ up t n = le-up t n pos in
+    let ur : r ≤ up r n = le-up r n pos in
+    let uw : w ≤ up w n = le-up w n pos in
     let whole : z ≤ kit.base + SPAN_LIMIT = omega (arith, small) in
-    let text = class_is p kit g gaps order made Text kit.base l.text (a Text) (omega arith) (omega arith) (omega arith) in
-    let rodata = class_is p kit g gaps order made Rodata (up t 4096) (rw text.ends at l.rodata) (a Rodata) (omega arith) (omega arith) (omega arith) in
-    let rwdata = class_is p kit g gaps order made Rwdata (up r 4096) (rw rodata.ends at l.rwdata) (a Rwdata) (omega arith) (omega arith) (omega arith) in
-    let bss = class_is p kit g gaps order made Bss (up w 4096) (rw rwdata.ends at l.bss) (a Bss) (omega arith) (omega arith) (omega arith) in
+    let text = class_is p kit g gaps order made Text from l.text (a Text) (omega arith) (omega arith) (omega arith) in
+    let rodata = class_is p kit g gaps order made Rodata (up t n) (rw text.ends at l.rodata) (a Rodata) (omega arith) (omega arith) (omega arith) in
+    let rwdata = class_is p kit g gaps order made Rwdata (up r n) (rw rodata.ends at l.rwdata) (a Rwdata) (omega arith) (omega arith) (omega arith) in
+    let bss = class_is p kit g gaps order made Bss (up w n) (rw rwdata.ends at l.bss) (a Bss) (omega arith) (omega arith) (omega arith) in
     record {
-      base = omega (arith, text.start);
+      base = omega (arith, text.start, past);
       text = text.ordered;
       rodata_from = omega (arith, rodata.start, text.ends);
       rodata = rodata.ordered;

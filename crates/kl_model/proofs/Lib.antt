@@ -7,3 +7,8 @@ pub mod Carried
 pub mod Covered
 pub mod Examples
 pub mod FaultExamples
+pub mod Kernels
+pub mod ImageBytes
+pub mod Resolutions
+pub mod Libraries
+pub mod LibraryImages

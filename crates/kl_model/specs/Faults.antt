@@ -1,33 +1,36 @@
 -- The faults of a link that stand, in the order in which they are answered.
-use Rattle.std.specs.Prelude.{ℕ, ◌+◌, ◌%◌, ◌^◌, Bool, cond, not, ◌&&◌, ◌||◌, ◌==◌, nat_lt, List, [], ◌∷◌, ◌++◌, filter, find, flat_map, slice_get, is_none, Option, Result, Ok, Err, option_to_list}
+use Rattle.std.specs.Prelude.{ℕ, ◌+◌, ◌%◌, ◌^◌, Bool, cond, if◌then◌else◌, not, ◌&&◌, ◌||◌, ◌==◌, nat_lt, List, [], ◌∷◌, ◌++◌, filter, find, flat_map, slice_get, is_none, Option, Result, Ok, Err, option_to_list}
 use Rattle.std.specs.Str.{bytes_eq}
 use Rattle.std.specs.Option.{option_map}
 use Rattle.std.specs.List.{list_any}
 use Rattle.kl_model.specs.Texts.{text_at}
 use Rattle.kl_model.specs.Lists.{each, only_if}
-use Rattle.kl_model.specs.Kept.{is_kept, input_at}
+use Rattle.kl_model.specs.Kept.{class_of, input_at, section_at}
+use Rattle.kl_model.specs.Dynamic.{is_kept_field}
+use Rattle.kl_model.specs.Slots.{is_not_fixed, is_read_only, same_target}
+use Rattle.kl_model.specs.Sizes.{made_of}
+use Rattle.kl_model.specs.Leads.{field_address, field_value, value_target}
 use Rattle.kl_model.specs.Names.{Occurrence, occurrences, is_common, is_definition, definition, edge_names}
 use Rattle.kl_model.specs.Graphs.{Missing, Removed, Undefined, target, symbol_at, graph}
-use Rattle.kl_model.specs.Line.{same_target, made_of}
-use Rattle.kl_model.specs.Laid.{span, place_of}
-use Rattle.kl_model.specs.Relocations.{in_range, is_kind, is_slot_kind}
-use Rattle.kl_model.specs.Reaches.{value}
-use Rattle.kl_model.specs.Carries.{address_of, slot_of}
+use Rattle.kl_model.specs.Laid.{span}
+use Rattle.kl_model.specs.Relocations.{in_range, is_kind}
 use Rattle.kl_model.specs.Placed.{placed}
 use Rattle.kl_model.specs.declared.object.Input.{Input}
 use Rattle.kl_model.specs.declared.object.RawField.{RawField}
+use Rattle.kl_base.specs.declared.class.Class.{Class}
+use Rattle.kl_model.specs.declared.kit.KitKind.{KitKind}
+use Rattle.kl_model.specs.declared.kit.KitKind.TheVariants.{Library}
 use Rattle.kl_model.specs.declared.kit.Kit.{Kit}
 use Rattle.kl_model.specs.declared.graph.Field.{Field}
 use Rattle.kl_model.specs.declared.graph.FieldAt.{FieldAt}
 use Rattle.kl_model.specs.declared.graph.Graph.{Graph}
 use Rattle.kl_model.specs.declared.graph.Target.{Target}
 use Rattle.kl_model.specs.declared.graph.Target.TheVariants.{Gone}
-use Rattle.kl_model.specs.declared.place.Body.TheVariants as body
 use Rattle.kl_model.specs.declared.place.Gaps.{Gaps}
 use Rattle.kl_model.specs.declared.place.Placement.{Placement}
 use Rattle.kl_model.specs.declared.link.LinkFault.{LinkFault}
 use Rattle.kl_model.specs.declared.link.LinkFault.TheVariants as fault
-use Rattle.kl_elf.specs.declared.abi.TheConstants.{R_X86_64_NONE, STB_GLOBAL}
+use Rattle.kl_elf.specs.declared.abi.TheConstants.{STB_GLOBAL}
 use Rattle.kl_base.specs.declared.limits.TheConstants.{SPAN_LIMIT}
 
 -- a GLOBAL definition
@@ -63,18 +66,23 @@ missing_faults name from (Ok t) = []
 missing_faults name from (Err Removed) = fault.Removed from ∷ []
 missing_faults name from (Err Undefined) = fault.Undefined name from ∷ []
 
--- the faults of a field: its type isn't linked; its target isn't kept, or not defined
+-- in a library: its value depends on the base, or the loader would have to write outside data
+abbrev pub loader_faults : KitKind → FieldAt → Class → ℕ → Result Target Missing → List LinkFault
+loader_faults Library from c kind (Ok t) =
+    only_if (is_not_fixed kind t) (fault.NotFixed from) ++ only_if (is_read_only c kind t) (fault.ReadOnlyField from)
+loader_faults _ from c kind t = []
+
+-- the faults of a field: its type isn't linked; its target isn't kept, or not defined; in a library the two above
 abbrev pub field_faults : Kit → List Input → ℕ → RawField → List LinkFault
 field_faults kit inputs i f =
-    only_if (not (is_kind f.kind)) (fault.Kind (from_of i f) f.kind)
-    ++ missing_faults (text_at (input_at inputs i).bytes (symbol_at inputs i f.symbol).name) (from_of i f) (target kit inputs i f.section f.symbol)
-
--- a field of a kept section, of another type than NONE
-abbrev pub is_kept_field : Kit → List Input → ℕ → RawField → Bool
-is_kept_field kit inputs i f = is_kept kit inputs i f.section && not (f.kind == R_X86_64_NONE)
+    let from = from_of i f in
+    let leads = target kit inputs i f.section f.symbol in
+    only_if (not (is_kind f.kind)) (fault.Kind from f.kind)
+    ++ (missing_faults (text_at (input_at inputs i).bytes (symbol_at inputs i f.symbol).name) from leads
+    ++ loader_faults kit.kind from (class_of (section_at inputs i f.section)) f.kind leads)
 
 abbrev pub input_faults : Kit → List Input → ℕ → Input → List LinkFault
-input_faults kit inputs i x = each x.object.fields (λ k f. cond (is_kept_field kit inputs i f) (field_faults kit inputs i f) [])
+input_faults kit inputs i x = each x.object.fields (λ k f. if is_kept_field kit inputs i f then field_faults kit inputs i f else [])
 
 -- 4. those of all fields, by input, relocation section and entry
 abbrev pub all_field_faults : Kit → List Input → List LinkFault
@@ -88,16 +96,9 @@ resolve_faults kit inputs = doubled kit inputs ++ (clashes kit inputs ++ (no_ent
 abbrev pub span_faults : ℕ → List LinkFault
 span_faults n = only_if (nat_lt SPAN_LIMIT n) (fault.Span n SPAN_LIMIT)
 
--- what a field's value leads to (psABI, S or the slot's address), and the field's own address (psABI, P)
-abbrev pub value_target : Placement → Graph → Field → ℕ
-value_target p g f = cond (is_slot_kind f.kind) (slot_of p g f.target % 2 ^ 64) (address_of p g f.target)
-
-abbrev pub field_address : Placement → Graph → Field → ℕ
-field_address p g f = (place_of p g (body.Piece f.piece) + f.offset) % 2 ^ 64
-
 -- the value of a field is in its type's range; a field that leads to nothing has no value
 abbrev pub does_fit : Placement → Graph → Field → Bool
-does_fit p g f = same_target f.target Gone || in_range f.kind (value f.kind (value_target p g f) f.addend (field_address p g f))
+does_fit p g f = same_target f.target Gone || in_range f.kind (field_value p g f)
 
 -- 6. a field's value is out of range, by input, relocation section and entry
 abbrev pub range_faults : Placement → Graph → List LinkFault

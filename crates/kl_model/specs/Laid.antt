@@ -1,5 +1,7 @@
 -- Where the parts of a placement stand, and the span.
-use Rattle.std.specs.Prelude.{ℕ, ◌+◌, ◌-◌, ◌*◌, ◌/◌, ◌%◌, ◌^◌, ◌≡◌, cond, nat_lt, List, [], ◌∷◌, length, slice_get, slice_index_or, Option, Some, IfSome}
+use Rattle.std.specs.Prelude.{ℕ, ◌+◌, ◌-◌, ◌%◌, ◌^◌, ◌≡◌, cond, if◌then◌else◌, nat_lt, List, [], ◌∷◌, length, slice_get, slice_index_or, Option, Some, IfSome}
+use Rattle.kl_model.specs.Lists.{up}
+use Rattle.kl_model.specs.Sizes.{page_of, text_from}
 use Rattle.kl_model.specs.Line.{Spread, spreads, line}
 use Rattle.kl_model.specs.Areas.{class_number}
 use Rattle.kl_base.specs.declared.class.Class.{Class}
@@ -15,16 +17,7 @@ use Rattle.kl_model.specs.declared.place.Made.{Made}
 use Rattle.kl_model.specs.declared.place.Placed.{Placed}
 use Rattle.kl_model.specs.declared.place.AreaAt.{AreaAt}
 use Rattle.kl_model.specs.declared.place.Placement.{Placement}
-use Rattle.kl_base.specs.declared.limits.TheConstants.{PAGE}
 use Rattle.kl_model.specs.declared.area.TheConstants as area
-
--- the least multiple of n at or past a
-abbrev pub up : ℕ → ℕ → ℕ
-up a n = (a + n - 1) / n * n
-
--- the page of a kernel, in bytes
-abbrev pub page : ℕ
-page = PAGE
 
 -- what stands past the end of a list
 abbrev pub no_placed : Placed
@@ -35,7 +28,7 @@ no_area = record { start = 0; end = 0 }
 
 -- an address that is kept modulo 2^64, as the number from the base on that it stands for
 abbrev pub unwrapped : Placement → ℕ → ℕ
-unwrapped p a = cond (nat_lt a p.base) (a + 2 ^ 64) a
+unwrapped p a = if nat_lt a p.base then a + 2 ^ 64 else a
 
 abbrev pub area_at : Placement → ℕ → AreaAt
 area_at p n = record {
@@ -83,13 +76,14 @@ pub record ClassLaid (p : Placement) (kit : Kit) (g : Graph) (gaps : Option Gaps
 abbrev pub class_end : Placement → Class → ℕ
 class_end p c = (area_at p (class_number c)).end
 
--- A placement is laid out: text from the base on, every other class from the next page on, and no other area stands in it.
+-- A placement is laid out: text from the base on, or behind a library's headers, every other class from the next page on, and no
+-- other area stands in it.
 pub record Laid (p : Placement) (kit : Kit) (g : Graph) (gaps : Option Gaps) (order : List ℕ) (made : Made) : Type 0 where
   pub base : p.base ≡ kit.base
-  pub text : ClassLaid p kit g gaps order made Text kit.base
-  pub rodata : ClassLaid p kit g gaps order made Rodata (up (class_end p Text) page)
-  pub rwdata : ClassLaid p kit g gaps order made Rwdata (up (class_end p Rodata) page)
-  pub bss : ClassLaid p kit g gaps order made Bss (up (class_end p Rwdata) page)
+  pub text : ClassLaid p kit g gaps order made Text (text_from kit g)
+  pub rodata : ClassLaid p kit g gaps order made Rodata (up (class_end p Text) (page_of kit g))
+  pub rwdata : ClassLaid p kit g gaps order made Rwdata (up (class_end p Rodata) (page_of kit g))
+  pub bss : ClassLaid p kit g gaps order made Bss (up (class_end p Rwdata) (page_of kit g))
   pub count : length p.areas ≡ area.FIRST_RUN + length kit.runs
 
 -- where parts end that are laid from an address on
@@ -100,7 +94,7 @@ reach from (x ∷ xs) = reach (up from x.align + x.size) xs
 -- from the base to the end of bss, in bytes
 abbrev pub span : Kit → Graph → Option Gaps → List ℕ → Made → ℕ
 span kit g gaps order made =
-    let text = reach kit.base (line kit g gaps order made Text) in
-    let rodata = reach (up text page) (line kit g gaps order made Rodata) in
-    let rwdata = reach (up rodata page) (line kit g gaps order made Rwdata) in
-    reach (up rwdata page) (line kit g gaps order made Bss) - kit.base
+    let text = reach (text_from kit g) (line kit g gaps order made Text) in
+    let rodata = reach (up text (page_of kit g)) (line kit g gaps order made Rodata) in
+    let rwdata = reach (up rodata (page_of kit g)) (line kit g gaps order made Rwdata) in
+    reach (up rwdata (page_of kit g)) (line kit g gaps order made Bss) - kit.base

@@ -15,3 +15,14 @@ pub mod Faults
 pub mod Simple
 pub mod Relocations
 pub mod Areas
+pub mod Kits
+pub mod Dynamic
+pub mod Slots
+pub mod Sizes
+pub mod Leads
+pub mod Written
+pub mod Tables
+pub mod Loaded
+pub mod Found
+pub mod Image
+pub mod Roomy

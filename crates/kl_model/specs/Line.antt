@@ -1,8 +1,6 @@
 -- What stands in a class, in order.
-use Rattle.std.specs.Prelude.{ℕ, ◌+◌, ◌*◌, Bool, true, false, not, ◌&&◌, ◌||◌, ◌==◌, List, [], ◌∷◌, ◌++◌, flat_map, length, slice_index, Option, Some, None}
-use Rattle.std.specs.List.{list_any}
+use Rattle.std.specs.Prelude.{ℕ, ◌+◌, Bool, true, false, not, ◌&&◌, ◌==◌, List, [], ◌∷◌, ◌++◌, flat_map, slice_index, Option, Some, None}
 use Rattle.kl_model.specs.Lists.{each, only_if}
-use Rattle.kl_model.specs.Relocations.{is_slot_kind}
 use Rattle.kl_model.specs.Kept.{part_number}
 use Rattle.kl_model.specs.Areas.{same_class, class_number}
 use Rattle.kl_base.specs.declared.class.Class.{Class}
@@ -12,10 +10,9 @@ use Rattle.kl_model.specs.declared.object.Part.TheVariants.{Head, Drawn, Tail}
 use Rattle.kl_model.specs.declared.graph.PieceId.{PieceId}
 use Rattle.kl_model.specs.declared.graph.PieceId.TheVariants as id
 use Rattle.kl_model.specs.declared.graph.Piece.{Piece}
-use Rattle.kl_model.specs.declared.graph.Field.{Field}
 use Rattle.kl_model.specs.declared.graph.Graph.{Graph}
-use Rattle.kl_model.specs.declared.graph.Target.{Target}
-use Rattle.kl_model.specs.declared.graph.Target.TheVariants.{Place, Abs, Edge, Name, Zero, Gone}
+use Rattle.kl_model.specs.declared.kit.KitKind.{KitKind}
+use Rattle.kl_model.specs.declared.kit.KitKind.TheVariants.{Kernel, Library}
 use Rattle.kl_model.specs.declared.kit.Kit.{Kit}
 use Rattle.kl_model.specs.declared.place.Gaps.{Gaps}
 use Rattle.kl_model.specs.declared.place.Made.{Made}
@@ -31,34 +28,6 @@ classes = Text ∷ Rodata ∷ Rwdata ∷ Bss ∷ []
 pub record Spread : Type 0 where
   pub area : Option ℕ
   pub parts : List LinePart
-
-abbrev pub same_flag : Bool → Bool → Bool
-same_flag true b = b
-same_flag false b = not b
-
-abbrev pub same_target : Target → Target → Bool
-same_target (Place n k) (Place m j) = (n == m) && (k == j)
-same_target (Abs n) (Abs m) = n == m
-same_target (Edge n e) (Edge m d) = (n == m) && same_flag e d
-same_target (Name n) (Name m) = n == m
-same_target Zero Zero = true
-same_target Gone Gone = true
-same_target _ _ = false
-
--- each target that needs a slot, once, in the order of the first field that needs it; those seen before are left out
-abbrev pub slots_after : List Target → List Field → List Target
-slots_after seen [] = []
-slots_after seen (f ∷ fs) =
-    let new = only_if (is_slot_kind f.kind && (not (same_target f.target Gone) && not (list_any (same_target f.target) seen))) f.target in
-    new ++ slots_after (new ++ seen) fs
-
--- the slots of the global offset table, by number
-abbrev pub slots : Graph → List Target
-slots g = slots_after [] g.fields
-
--- the sizes of a kernel's made areas: a slot has eight bytes
-abbrev pub made_of : Kit → Graph → Made
-made_of kit g = record { stubs = 0; tables = 0; got = 8 * length (slots g); dynamic = 0 }
 
 -- a piece as a part
 abbrev pub piece_part : ℕ → Piece → LinePart
@@ -122,17 +91,23 @@ made_parts n size align = only_if (not (size == 0)) (record { body = body.Area n
 abbrev pub made_spread : ℕ → ℕ → ℕ → Spread
 made_spread n size align = record { area = Some n; parts = made_parts n size align }
 
--- what follows the ordinary pieces and the runs in a kernel
-abbrev pub last_spreads : Graph → Made → Class → List Spread
-last_spreads g made Text = area_spread g area.INIT ∷ area_spread g area.FINI ∷ made_spread area.STUBS made.stubs 16 ∷ []
-last_spreads g made Rodata = area_spread g area.EH_FRAME ∷ made_spread area.TABLES made.tables 8 ∷ made_spread area.GOT made.got 8 ∷ []
-last_spreads g made Rwdata =
+-- the global offset table, in rodata of a kernel, in data of a library
+abbrev pub got_spread : KitKind → Made → Class → List Spread
+got_spread Kernel made Rodata = made_spread area.GOT made.got 8 ∷ []
+got_spread Library made Rwdata = made_spread area.GOT made.got 8 ∷ []
+got_spread _ made _ = []
+
+-- what follows the ordinary pieces and the runs
+abbrev pub last_spreads : KitKind → Graph → Made → Class → List Spread
+last_spreads kind g made Text = area_spread g area.INIT ∷ area_spread g area.FINI ∷ made_spread area.STUBS made.stubs 16 ∷ []
+last_spreads kind g made Rodata = area_spread g area.EH_FRAME ∷ made_spread area.TABLES made.tables 8 ∷ got_spread kind made Rodata
+last_spreads kind g made Rwdata =
     area_spread g area.CTORS ∷ area_spread g area.DTORS ∷ area_spread g area.INIT_ARRAY ∷ area_spread g area.FINI_ARRAY
-    ∷ made_spread area.DYNAMIC made.dynamic 8 ∷ []
-last_spreads g made Bss = record { area = None; parts = piece_parts g (λ x. is_common_id x.id) } ∷ []
+    ∷ (got_spread kind made Rwdata ++ made_spread area.DYNAMIC made.dynamic 8 ∷ [])
+last_spreads kind g made Bss = record { area = None; parts = piece_parts g (λ x. is_common_id x.id) } ∷ []
 
 abbrev pub spreads : Kit → Graph → Option Gaps → List ℕ → Made → Class → List Spread
-spreads kit g gaps order made c = ordinary g gaps order c ∷ (run_spreads kit g order c ++ last_spreads g made c)
+spreads kit g gaps order made c = ordinary g gaps order c ∷ (run_spreads kit g order c ++ last_spreads kit.kind g made c)
 
 -- the parts of a class in order
 abbrev pub line : Kit → Graph → Option Gaps → List ℕ → Made → Class → List LinePart

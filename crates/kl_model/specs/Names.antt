@@ -1,10 +1,14 @@
 -- The definition and the visibility of a name.
-use Rattle.std.specs.Prelude.{ℕ, Bool, false, true, cond, not, ◌&&◌, ◌||◌, ◌==◌, List, [], ◌∷◌, ◌++◌, map, filter, find, fold, length, nat_lt, flat_map, unwrap_or, Option, is_none}
+use Rattle.std.specs.Prelude.{ℕ, Bool, false, true, cond, if◌then◌else◌, not, ◌&&◌, ◌||◌, ◌==◌, List, [], ◌∷◌, ◌++◌, map, filter, find, fold, length, max, nat_lt, flat_map, unwrap_or, Option, is_none}
 use Rattle.std.specs.Str.{bytes_eq}
 use Rattle.std.specs.Option.{option_map, option_or}
 use Rattle.std.specs.List.{position_from}
 use Rattle.kl_model.specs.Texts.{text_at}
-use Rattle.kl_model.specs.Lists.{each, each_from, only_if, among}
+use Rattle.std.specs.Ordering.{nat_cmp}
+use Rattle.std.specs.Cmp.Lexicographic.{slice_cmp}
+use Rattle.std.specs.declared.cmp.Ordering.{Ordering}
+use Rattle.std.specs.declared.cmp.Ordering.TheVariants.{Less, Equal, Greater}
+use Rattle.kl_model.specs.Lists.{each, each_from, in_order, once, only_if}
 use Rattle.kl_model.specs.Kept.{is_kept}
 use Rattle.kl_model.specs.declared.object.Input.{Input}
 use Rattle.kl_model.specs.declared.object.Symbol.{Symbol}
@@ -42,20 +46,13 @@ is_definition kit inputs o = (o.symbol.section == SHN_ABS) || (not (is_common o)
 abbrev pub first_definition : Kit → List Input → ℕ → List ℕ → Option Occurrence
 first_definition kit inputs binding name = find (λ o. (o.symbol.binding == binding) && is_definition kit inputs o) (occurrences_of inputs name)
 
--- each name once, where it comes first; those seen before are left out
-abbrev pub names_once : List (List ℕ) → List (List ℕ) → List (List ℕ)
-names_once seen [] = []
-names_once seen (n ∷ ns) =
-    let new = only_if (not (among seen n)) n in
-    new ++ names_once (new ++ seen) ns
-
 -- a common holds where no GLOBAL definition has its name
 abbrev pub holds_common : Kit → List Input → Occurrence → Bool
 holds_common kit inputs o = is_common o && is_none (first_definition kit inputs STB_GLOBAL o.name)
 
 -- the names of the commons that hold, in the order of their first common symbols
 abbrev pub common_names : Kit → List Input → List (List ℕ)
-common_names kit inputs = names_once [] (map (λ o. o.name) (filter (holds_common kit inputs) (occurrences inputs)))
+common_names kit inputs = once bytes_eq (map (λ o. o.name) (filter (holds_common kit inputs) (occurrences inputs)))
 
 -- the kept sections by input and number, each a piece
 abbrev pub kept_numbers : Kit → List Input → List (ℕ × ℕ)
@@ -65,39 +62,81 @@ kept_numbers kit inputs = each inputs (λ i x. each_from 1 (λ s y. only_if (is_
 abbrev pub piece_number : Kit → List Input → ℕ → ℕ → ℕ
 piece_number kit inputs i s = unwrap_or (position_from (λ p. (p.0 == i) && (p.1 == s)) 0 (kept_numbers kit inputs)) 0
 
--- where a definition leads
-abbrev pub place_of : Kit → List Input → Occurrence → Target
-place_of kit inputs o = cond (o.symbol.section == SHN_ABS) (Abs o.symbol.value) (Place (piece_number kit inputs o.input o.symbol.section) o.symbol.value)
+-- what defines a name: a symbol, or the common symbols of the name together
+pub data Definer : Type 0 where
+  BySymbol : Occurrence → Definer
+  ByCommon : List ℕ → Definer
+
+-- The definer of a name: its GLOBAL definition, its common, its first WEAK definition (gABI, "Symbol Table").
+abbrev pub definer : Kit → List Input → List ℕ → Option Definer
+definer kit inputs name =
+    option_or (option_map BySymbol (first_definition kit inputs STB_GLOBAL name))
+    (option_or (option_map ByCommon (find (bytes_eq name) (common_names kit inputs)))
+    (option_map BySymbol (first_definition kit inputs STB_WEAK name)))
+
+-- where a symbol leads: to its number, or to a place in the piece of its section
+abbrev pub symbol_target : Kit → List Input → Occurrence → Target
+symbol_target kit inputs o =
+    if o.symbol.section == SHN_ABS then Abs o.symbol.value else Place (piece_number kit inputs o.input o.symbol.section) o.symbol.value
 
 -- the common of a name leads to the start of its piece; commons are numbered behind the kept sections
-abbrev pub common_place : Kit → List Input → List ℕ → Option Target
-common_place kit inputs name =
-    option_map (λ n. Place n 0) (position_from (λ t. bytes_eq t name) (length (kept_numbers kit inputs)) (common_names kit inputs))
+abbrev pub common_number : Kit → List Input → List ℕ → ℕ
+common_number kit inputs name = unwrap_or (position_from (bytes_eq name) (length (kept_numbers kit inputs)) (common_names kit inputs)) 0
 
--- put into its place among lines that ascend
-abbrev pub by_line : ℕ × List (List ℕ × Target) → List (ℕ × List (List ℕ × Target)) → List (ℕ × List (List ℕ × Target))
-by_line e [] = e ∷ []
-by_line e (x ∷ xs) = cond (nat_lt e.0 x.0) (e ∷ x ∷ xs) (x ∷ by_line e xs)
+-- where a definer leads
+abbrev pub leads_to : Kit → List Input → Definer → Target
+leads_to kit inputs (BySymbol o) = symbol_target kit inputs o
+leads_to kit inputs (ByCommon name) = Place (common_number kit inputs name) 0
 
--- the names that the kit's `run` and `edge` lines give, in line order, each with its edge
+-- the definition of a name by symbols
+abbrev pub own_definition : Kit → List Input → List ℕ → Option Target
+own_definition kit inputs name = option_map (leads_to kit inputs) (definer kit inputs name)
+
+-- the common symbols of a name; the largest of their sizes and the strictest of their alignments, which are their values (gABI)
+abbrev pub commons_of : List Input → List ℕ → List Occurrence
+commons_of inputs name = filter is_common (occurrences_of inputs name)
+
+abbrev pub common_size : List Input → List ℕ → ℕ
+common_size inputs name = fold (λ n o. max n o.symbol.size) 0 (commons_of inputs name)
+
+abbrev pub common_align : List Input → List ℕ → ℕ
+common_align inputs name = fold (λ n o. max n o.symbol.value) 1 (commons_of inputs name)
+
+-- the `run` and `edge` lines of a kit by number, each with the names that it gives and their edges
+abbrev pub edge_lines : Kit → List (ℕ × List (List ℕ × Target))
+edge_lines kit =
+    each_from area.FIRST_RUN (λ k r. (r.line, (r.start, Edge k false) ∷ (r.end, Edge k true) ∷ []) ∷ []) kit.runs
+    ++ map (λ e. (e.line, (e.symbol, Edge e.area e.end) ∷ [])) kit.edges
+
+-- those names in line order
 abbrev pub edge_names : Kit → List (List ℕ × Target)
-edge_names kit = flat_map (λ x. x.1) (fold (λ xs e. by_line e xs) []
-    (each_from area.FIRST_RUN (λ k r. (r.line, (r.start, Edge k false) ∷ (r.end, Edge k true) ∷ []) ∷ []) kit.runs
-    ++ map (λ e. (e.line, (e.symbol, Edge e.area e.end) ∷ [])) kit.edges))
+edge_names kit = flat_map (λ x. x.1) (in_order (λ x y. nat_lt x.0 y.0) (edge_lines kit))
 
--- The definition of a name is the first of these: its GLOBAL definition, its common, its first WEAK definition, its edge
--- (gABI, "Symbol Table"; edges are this project's own).
+-- the edge of a name (this project's own)
+abbrev pub edge_of : Kit → List ℕ → Option Target
+edge_of kit name = option_map (λ e. e.1) (find (λ e. bytes_eq e.0 name) (edge_names kit))
+
+-- The definition of a name: that by symbols, or else its edge.
 abbrev pub definition : Kit → List Input → List ℕ → Option Target
-definition kit inputs name =
-    option_or (option_map (place_of kit inputs) (first_definition kit inputs STB_GLOBAL name))
-    (option_or (common_place kit inputs name)
-    (option_or (option_map (place_of kit inputs) (first_definition kit inputs STB_WEAK name))
-    (option_map (λ e. e.1) (find (λ e. bytes_eq e.0 name) (edge_names kit)))))
+definition kit inputs name = option_or (own_definition kit inputs name) (edge_of kit name)
 
 -- visibilities from least to most constraining (gABI): STV_DEFAULT, STV_PROTECTED, STV_HIDDEN, STV_INTERNAL
 abbrev pub rank : ℕ → ℕ
-rank v = cond (v == STV_DEFAULT) 0 (cond (v == STV_PROTECTED) 1 (cond (v == STV_HIDDEN) 2 3))
+rank v = if v == STV_DEFAULT then 0 else if v == STV_PROTECTED then 1 else if v == STV_HIDDEN then 2 else 3
 
 -- the most constraining visibility among all occurrences of a name
 abbrev pub visibility : List Input → List ℕ → ℕ
-visibility inputs name = fold (λ v o. cond (nat_lt (rank v) (rank o.symbol.visibility)) o.symbol.visibility v) STV_DEFAULT (occurrences_of inputs name)
+visibility inputs name = fold (λ v o. if nat_lt (rank v) (rank o.symbol.visibility) then o.symbol.visibility else v) STV_DEFAULT (occurrences_of inputs name)
+
+-- a text comes before another, byte by byte
+abbrev pub is_less : Ordering → Bool
+is_less Less = true
+is_less Equal = false
+is_less Greater = false
+
+abbrev pub comes_before : List ℕ → List ℕ → Bool
+comes_before x y = is_less (slice_cmp nat_cmp x y)
+
+-- the names of all symbols that aren't LOCAL, each once, in ascending bytes
+abbrev pub sorted_names : List Input → List (List ℕ)
+sorted_names inputs = in_order comes_before (once bytes_eq (map (λ o. o.name) (occurrences inputs)))

@@ -1,5 +1,5 @@
 -- The placement of a graph as a computation. That it is laid out, and that there is no other, is a law on the linker's layout.
-use Rattle.std.specs.Prelude.{ℕ, ◌+◌, ◌-◌, ◌%◌, ◌^◌, Bool, false, cond, ◌==◌, List, [], ◌∷◌, ◌++◌, map, unwrap_or, Option, Some, None}
+use Rattle.std.specs.Prelude.{ℕ, ◌+◌, ◌-◌, ◌%◌, ◌^◌, Bool, false, cond, if◌then◌else◌, ◌==◌, List, [], ◌∷◌, ◌++◌, map, unwrap_or, Option, Some, None}
 use Rattle.std.specs.Option.{option_or, option_map_or}
 use Rattle.std.specs.List.{range_with_len}
 use Rattle.kl_base.specs.declared.class.Class.{Class}
@@ -7,7 +7,9 @@ use Rattle.kl_base.specs.declared.class.Class.TheVariants.{Text, Rodata, Rwdata,
 use Rattle.kl_model.specs.Lists.{each, each_from}
 use Rattle.kl_model.specs.Areas.{same_class}
 use Rattle.kl_model.specs.Line.{Spread, spreads, line, classes, gap_size}
-use Rattle.kl_model.specs.Laid.{up, page, reach, no_area}
+use Rattle.kl_model.specs.Lists.{up}
+use Rattle.kl_model.specs.Sizes.{page_of, text_from}
+use Rattle.kl_model.specs.Laid.{reach, no_area}
 use Rattle.kl_model.specs.declared.place.Body.{Body}
 use Rattle.kl_model.specs.declared.place.Body.TheVariants as body
 use Rattle.kl_model.specs.declared.place.LinePart.{LinePart}
@@ -30,7 +32,7 @@ same_body _ _ = false
 -- where a body stands in parts that are laid from an address on, if it is there
 abbrev pub stop_of : Body → ℕ → List LinePart → Option ℕ
 stop_of b from [] = None
-stop_of b from (x ∷ xs) = cond (same_body b x.body) (Some (up from x.align)) (stop_of b (up from x.align + x.size) xs)
+stop_of b from (x ∷ xs) = if same_body b x.body then Some (up from x.align) else stop_of b (up from x.align + x.size) xs
 
 -- where parts that are laid from an address on start and end, each kept modulo 2^64
 abbrev pub first_stop : ℕ → List LinePart → ℕ
@@ -43,21 +45,21 @@ extent from parts = record { start = first_stop from parts % 2 ^ 64; end = reach
 -- the extent of the area of a number among spreads that are laid from an address on
 abbrev pub extent_of : ℕ → ℕ → List Spread → Option AreaAt
 extent_of n from [] = None
-extent_of n from (s ∷ ss) = cond (option_map_or (λ m. m == n) s.area false) (Some (extent from s.parts)) (extent_of n (reach from s.parts) ss)
+extent_of n from (s ∷ ss) = if option_map_or (λ m. m == n) s.area false then Some (extent from s.parts) else extent_of n (reach from s.parts) ss
 
 module _ (kit : Kit) (g : Graph) (gaps : Option Gaps) (order : List ℕ) (made : Made) where
   -- where each class is laid from
   abbrev pub rodata_from : ℕ
-  rodata_from = up (reach kit.base (line kit g gaps order made Text)) page
+  rodata_from = up (reach (text_from kit g) (line kit g gaps order made Text)) (page_of kit g)
 
   abbrev pub rwdata_from : ℕ
-  rwdata_from = up (reach rodata_from (line kit g gaps order made Rodata)) page
+  rwdata_from = up (reach rodata_from (line kit g gaps order made Rodata)) (page_of kit g)
 
   abbrev pub bss_from : ℕ
-  bss_from = up (reach rwdata_from (line kit g gaps order made Rwdata)) page
+  bss_from = up (reach rwdata_from (line kit g gaps order made Rwdata)) (page_of kit g)
 
   abbrev pub class_from : Class → ℕ
-  class_from Text = kit.base
+  class_from Text = text_from kit g
   class_from Rodata = rodata_from
   class_from Rwdata = rwdata_from
   class_from Bss = bss_from

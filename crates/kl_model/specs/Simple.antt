@@ -14,8 +14,7 @@ use Rattle.kl_model.specs.declared.object.Symbol.{Symbol}
 use Rattle.kl_model.specs.declared.object.RawField.{RawField}
 use Rattle.kl_model.specs.declared.object.Object.{Object}
 use Rattle.kl_model.specs.declared.object.Input.{Input}
-use Rattle.kl_model.specs.declared.kit.KitKind.{KitKind}
-use Rattle.kl_model.specs.declared.kit.KitKind.TheVariants.{Kernel, Library}
+use Rattle.kl_model.specs.Kits.{is_empty, is_kernel}
 use Rattle.kl_model.specs.declared.kit.Kit.{Kit}
 use Rattle.kl_model.specs.declared.graph.PieceId.TheVariants as id
 use Rattle.kl_model.specs.declared.graph.Piece.{Piece}
@@ -26,14 +25,7 @@ use Rattle.kl_model.specs.declared.graph.Graph.{Graph}
 use Rattle.kl_elf.specs.declared.abi.TheConstants.{R_X86_64_64, R_X86_64_NONE, R_X86_64_PC32, R_X86_64_PLT32, SHF_ALLOC, SHF_COMPRESSED, SHF_EXCLUDE, SHF_EXECINSTR, SHF_GROUP, SHF_INFO_LINK, SHF_MERGE, SHF_STRINGS, SHF_TLS, SHF_WRITE, SHN_COMMON, SHT_PROGBITS, STB_GLOBAL, STB_LOCAL, STV_DEFAULT}
 use Rattle.kl_base.specs.declared.limits.TheConstants.{ALIGN_POWER_LIMIT, FIELD_COUNT_LIMIT, INPUT_COUNT_LIMIT, SIZE_LIMIT}
 use Rattle.kl_model.specs.declared.area.TheConstants as area
-
-abbrev pub is_empty : {X : Type 0} → List X → Bool
-is_empty [] = true
-is_empty (x ∷ xs) = false
-
-abbrev pub is_kernel : KitKind → Bool
-is_kernel Kernel = true
-is_kernel Library = false
+use Rattle.kl_model.specs.declared.kit.KitKind.TheVariants.{Kernel}
 
 -- the flags of a section that have a meaning here (gABI)
 abbrev pub known_flags : ℕ
@@ -83,6 +75,7 @@ pub record IsSimplePiece (inputs : ℕ) (x : Piece) : Type 0 where
 
 -- The graph of such a kit, as far as it is laid out.
 pub record IsSimpleGraph (kit : Kit) (g : Graph) : Type 0 where
+  pub kernel : kit.kind ≡ Kernel
   pub no_runs : kit.runs ≡ []
   pub pieces : All (IsSimplePiece (length g.parts)) g.pieces
   pub count : length g.pieces < FIELD_COUNT_LIMIT

@@ -61,6 +61,9 @@ pub const INT3: u8 = 0xcc;
 /// The instruction `nop`, by which the areas `init` and `fini` are padded.
 pub const NOP: u8 = 0x90;
 
+/// The instruction `jmp` through the eight bytes at a distance of four bytes from its end, as its first two bytes.
+pub const JUMP: u16 = 0x25ff;
+
 /// An area that each image has.
 #[derive(Clone, Copy, Debug, PartialEq, Eq)]
 pub struct AreaForm {

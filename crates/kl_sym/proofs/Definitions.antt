@@ -5,7 +5,8 @@ use Rattle.std.proofs.lemmas.Bool.{cases_Bool, cases_lt}
 use Rattle.std.proofs.lemmas.List.{get_or_past}
 use Rattle.kl_model.specs.Lists.{each, each_from, only_if}
 use Rattle.kl_model.specs.Kept.{is_kept, input_at, no_input, no_section, no_symbol, section_at}
-use Rattle.kl_model.specs.Names.{Occurrence, occurrences, place_of, piece_number}
+use Rattle.kl_model.specs.Names.{Occurrence, occurrences, piece_number}
+use Rattle.kl_model.specs.Names.{symbol_target}
 use Rattle.kl_model.specs.Faults.{is_global_definition, doubled, doubled_after}
 use Rattle.kl_model.specs.Simple.{is_simple_symbol}
 use Rattle.kl_model.specs.declared.object.Section.{Section}
@@ -81,7 +82,7 @@ module _ (kit : Kit) (inputs : List Input) where
         ]
 
     pub defined-one : (t : Target) → symbol_place (piece_table kit inputs i) y ≡ Some t
-        → (defined kit inputs i x n y ≡ occurrence i x n y ∷ []) × (place_of kit inputs (occurrence i x n y) ≡ t)
+        → (defined kit inputs i x n y ≡ occurrence i x n y ∷ []) × (symbol_target kit inputs (occurrence i x n y) ≡ t)
     defined-one t h =
         elim (cases_Bool (y.section == 0xfff1)) [
           | inl a ↦ let yes : Some (Abs y.value) ≡ Some t = rw a at h in (rw (binding, a) refl, rw a (let same : Abs y.value ≡ t = cc in same))

@@ -8,7 +8,8 @@ use Rattle.std.specs.declared.alloc.Global.{Global}
 use Rattle.std.specs.Borrow.{Bor}
 use Rattle.std.proofs.lemmas.Bool.{cases_Bool}
 use Rattle.kl_model.specs.Kept.{input_at, no_symbol}
-use Rattle.kl_model.specs.Names.{Occurrence, place_of}
+use Rattle.kl_model.specs.Names.{Occurrence}
+use Rattle.kl_model.specs.Names.{symbol_target}
 use Rattle.kl_model.specs.Faults.{doubled, doubled_after}
 use Rattle.kl_model.specs.Simple.{is_simple_symbol}
 use Rattle.kl_model.specs.declared.object.Input.{Input}
@@ -40,7 +41,7 @@ module _ (kit : Kit) (inputs : List Input) (i n : ℕ) (h : i < length inputs) (
   one : defined kit inputs i (input_at inputs i) n (get_or (input_at inputs i).object.symbols n no_symbol) ≡ o ∷ []
   one = (defined-one kit inputs i (input_at inputs i) n (get_or (input_at inputs i).object.symbols n no_symbol) global simple t place).0
 
-  pub target_is : place_of kit inputs o ≡ t
+  pub target_is : symbol_target kit inputs o ≡ t
   target_is = (defined-one kit inputs i (input_at inputs i) n (get_or (input_at inputs i).object.symbols n no_symbol) global simple t place).1
 
   more : defined_up_to kit inputs i (n + 1) ≡ defined_up_to kit inputs i n ++ o ∷ []
@@ -51,7 +52,7 @@ module _ (kit : Kit) (inputs : List Input) (i n : ℕ) (h : i < length inputs) (
   double_is e d =
       let first = mapped_some (definition_of kit inputs) (last_of (defined_up_to kit inputs i n) o.name) d.before (sym (noted o.name) ∙ d.stands) in
       let fault_is = double_first kit inputs i n h l o first.0 one once first.1 in
-      let same : record { input = first.0.input; number = first.0.number; target = place_of kit inputs first.0 } ≡ d.before = first.2 in
+      let same : record { input = first.0.input; number = first.0.number; target = symbol_target kit inputs first.0 } ≡ d.before = first.2 in
       fault_is ∙ ap Some (ap (λ (b : Definition). fault.Doubled o.name (b.input, b.number) (i, n)) same ∙ sym d.fault)
 
   -- one that isn't

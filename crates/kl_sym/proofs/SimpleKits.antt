@@ -11,7 +11,8 @@ use Rattle.kl_model.specs.Lists.{each_from, among, number_in}
 use Rattle.kl_model.specs.Kept.{is_kept, is_repeated, section_at, input_at, no_input, earlier, area_of, class_of}
 use Rattle.kl_model.specs.Areas.{named_area, typed_area, class_number}
 use Rattle.kl_model.specs.Line.{classes}
-use Rattle.kl_model.specs.Simple.{is_simple, is_simple_input, is_simple_section, is_simple_symbol, is_simple_field, is_empty, is_kernel, known_flags}
+use Rattle.kl_model.specs.Simple.{is_simple, is_simple_input, is_simple_section, is_simple_symbol, is_simple_field, known_flags}
+use Rattle.kl_model.specs.Kits.{is_empty, is_kernel}
 use Rattle.kl_base.specs.declared.class.Class.{Class}
 use Rattle.kl_base.specs.declared.class.Class.TheVariants.{Text, Rodata, Rwdata, Bss}
 use Rattle.kl_model.specs.declared.object.Group.{Group}
@@ -21,6 +22,8 @@ use Rattle.kl_model.specs.declared.kit.Kit.{Kit}
 use Rattle.kl_model.specs.Areas.{Area, row}
 use Rattle.kl_elf.specs.declared.abi.TheConstants.{SHT_NULL}
 use Rattle.kl_model.specs.declared.area.TheConstants as area
+use Rattle.kl_model.specs.declared.kit.KitKind.{KitKind}
+use Rattle.kl_model.specs.declared.kit.KitKind.TheVariants.{Kernel, Library}
 
 pub and_left : (a b : Bool) → (a && b) ≡ true → a ≡ true
 and_left true b e = refl
@@ -47,10 +50,15 @@ empty_is (x ∷ xs) e = cc
 
 -- the parts of a simple kit
 pub record IsSimpleKit (kit : Kit) (inputs : List Input) : Type 0 where
+  pub kernel : kit.kind ≡ Kernel
   pub runs : kit.runs ≡ []
   pub edges : kit.edges ≡ []
   pub drops : kit.drops ≡ []
   pub each_input : (i : ℕ) → i < length inputs → is_simple_input (input_at inputs i) ≡ true
+
+kernel_is : (kind : KitKind) → is_kernel kind ≡ true → kind ≡ Kernel
+kernel_is Kernel e = refl
+kernel_is Library e = cc
 
 pub simple_kit : (kit : Kit) (inputs : List Input) → is_simple kit inputs ≡ true → IsSimpleKit kit inputs
 unfolding is_simple
@@ -60,6 +68,7 @@ simple_kit kit inputs e =
     let after_runs = and_right (is_empty kit.runs) _ after_kind in
     let after_edges = and_right (is_empty kit.edges) _ after_runs in
     record {
+      kernel = kernel_is kit.kind (and_left _ _ e);
       runs = empty_is kit.runs (and_left _ _ after_kind);
       edges = empty_is kit.edges (and_left _ _ after_runs);
       drops = empty_is kit.drops (and_left _ _ after_edges);

@@ -7,7 +7,8 @@ use Rattle.std.proofs.lemmas.Bool.{cases_Bool}
 use Rattle.std.proofs.lemmas.List.{get_or_default}
 use Rattle.kl_model.specs.Lists.{each, only_if}
 use Rattle.kl_model.specs.Kept.{input_at, no_input}
-use Rattle.kl_model.specs.Names.{Occurrence, occurrences, first_definition, common_names, definition, edge_names, holds_common, is_definition, place_of}
+use Rattle.kl_model.specs.Names.{Occurrence, occurrences, first_definition, common_names, definition, edge_names, holds_common, is_definition}
+use Rattle.kl_model.specs.Names.{symbol_target}
 use Rattle.kl_model.specs.Graphs.{common_pieces}
 use Rattle.kl_model.specs.Faults.{is_global_definition, clashes, doubled_after}
 use Rattle.kl_model.specs.Simple.{is_simple_symbol}
@@ -22,6 +23,7 @@ use Rattle.kl_sym.specs.Index.{Indexes, IsIndex, occurrence, definition_of, glob
 use Rattle.kl_sym.specs.declared.names.Definition.{Definition}
 use Rattle.kl_sym.proofs.SimpleKits.{IsSimpleKit, pass_at, simple_symbols, or_right, and_left, and_right, not_true}
 use Rattle.kl_sym.proofs.Doubles.{last_is_first}
+use Rattle.kl_model.specs.Names.{BySymbol, leads_to}
 
 -- the first of a name that passes is the first that passes of that name
 find-filter : {X : Type 0} (p same : X → Bool) (xs : List X) → find p (filter same xs) ≡ find same (filter p xs)
@@ -79,14 +81,15 @@ module _ (kit : Kit) (inputs : List Input) (simple : IsSimpleKit kit inputs) whe
   pub no_edges : edge_names kit ≡ []
   no_edges = rw (simple.runs, simple.edges) refl
 
-  or_nothing : {X : Type 0} (o : Option X) → option_or o None ≡ o
-  or_nothing None = refl
-  or_nothing (Some x) = refl
+  -- a name that symbols alone define leads where its symbol does
+  by_symbol : (o : Option Occurrence) → option_or (option_map (leads_to kit inputs) (option_or (option_map BySymbol o) None)) None ≡ option_map (symbol_target kit inputs) o
+  by_symbol None = refl
+  by_symbol (Some o) = refl
 
-  pub definition-simple : (q : List ℕ) → definition kit inputs q ≡ option_map (place_of kit inputs) (find (λ o. bytes_eq o.name q) (global_definitions kit inputs))
+  pub definition-simple : (q : List ℕ) → definition kit inputs q ≡ option_map (symbol_target kit inputs) (find (λ o. bytes_eq o.name q) (global_definitions kit inputs))
   definition-simple q =
       let first = find-filter (is_global_definition kit inputs) (λ o. bytes_eq o.name q) (occurrences inputs) in
-      rw (no_commons, no_weak q, no_edges, first) (or_nothing _)
+      rw (no_commons, no_weak q, no_edges, first) (by_symbol _)
 
   pub no_clashes : clashes kit inputs ≡ []
   no_clashes = rw no_edges refl

@@ -1,5 +1,5 @@
 -- The fields of the graph of a simple kit can be written.
-use Rattle.std.proofs.Common.{ℕ, zero, suc, ◌≡◌, ◌+◌, ◌^◌, ◌<◌, ◌≤◌, ◌∙◌, List, [], ◌∷◌, length, get_or, refl, ap, sym, arith, Bool, true, false, not, ◌||◌, cond, inl, inr, ◌⊎◌}
+use Rattle.std.proofs.Common.{ℕ, zero, suc, ◌≡◌, ◌+◌, ◌^◌, ◌<◌, ◌≤◌, ◌∙◌, List, [], ◌∷◌, length, get_or, refl, ap, subst, sym, arith, Bool, true, false, not, ◌||◌, cond, inl, inr, ◌⊎◌}
 use Rattle.std.specs.Prelude.{Some, None, Option, ◌==◌, All, AllPairs, IfSome, Result, Ok, Err, find, filter, codes, sum_by}
 use Rattle.std.specs.Option.{option_map, option_and_then}
 use Rattle.std.proofs.lemmas.List.Sums.{sum_by-cons}
@@ -11,11 +11,13 @@ use Rattle.std.proofs.lemmas.List.{get_or_default, get_or_past, append-nil}
 use Rattle.kl_le.specs.Bytes.{Within}
 use Rattle.kl_model.specs.Texts.{has, text_at}
 use Rattle.kl_model.specs.Kept.{is_kept, input_at, no_input, no_section, section_at, name_at}
-use Rattle.kl_model.specs.Names.{Occurrence, occurrences, piece_number, definition, place_of, is_common}
+use Rattle.kl_model.specs.Names.{Occurrence, occurrences, piece_number, definition, is_common}
+use Rattle.kl_model.specs.Names.{symbol_target}
 use Rattle.kl_model.specs.Graphs.{Missing, Undefined, graph, piece_of, section_pieces, target, target_or, symbol_at, kept_field, input_fields, fields}
 use Rattle.kl_model.specs.Carries.{no_piece, piece_at}
 use Rattle.kl_model.specs.Relocations.{width}
-use Rattle.kl_model.specs.Faults.{is_global_definition, is_kept_field, input_faults, all_field_faults}
+use Rattle.kl_model.specs.Faults.{is_global_definition, input_faults, all_field_faults}
+use Rattle.kl_model.specs.Dynamic.{is_kept_field}
 use Rattle.kl_model.specs.Relocations.{is_kind}
 use Rattle.kl_model.specs.Fit.{AreFit, IsFitField, ShareNoByte, section_in}
 use Rattle.kl_model.specs.Simple.{is_simple_field, IsSourced, IsSimpleTarget, IsSimpleField, StandApart, IsWritable}
@@ -35,6 +37,7 @@ use Rattle.kl_sym.proofs.SimpleNames.{definition-simple, no_common_pieces}
 use Rattle.kl_sym.proofs.PieceNumbers.{only_if-le}
 use Rattle.kl_sym.proofs.SoundGraph.{piece_there, number-lt, code, all_pieces, sourced_own}
 use Rattle.kl_sym.proofs.FieldTargets.{field_faults_of, no_entry_at}
+use Rattle.kl_model.proofs.Kernels.{kernel_target}
 
 no_section_unmarked : has no_section.flags 2 ≡ false
 no_section_unmarked = refl
@@ -93,7 +96,7 @@ module _ (kit : Kit) (inputs : List Input) (fit : AreFit inputs) (simple : IsSim
       rw (pieces_are, known.1.1) (number-lt kit inputs i known.1.0 known.0 known.1.2 (rw known.1.1 at kept))
 
   -- where a definition leads
-  place_simple : (o : Occurrence) → is_global_definition kit inputs o ≡ true → IsSimpleTarget (graph kit inputs) (place_of kit inputs o)
+  place_simple : (o : Occurrence) → is_global_definition kit inputs o ≡ true → IsSimpleTarget (graph kit inputs) (symbol_target kit inputs o)
   place_simple o e =
       let defined = and_right (o.symbol.binding == 1) _ e in
       elim (cases_Bool (o.symbol.section == 0xfff1)) [
@@ -104,7 +107,7 @@ module _ (kit : Kit) (inputs : List Input) (fit : AreFit inputs) (simple : IsSim
   pub definition_simple : (q : List ℕ) → IfSome (definition kit inputs q) (IsSimpleTarget (graph kit inputs))
   definition_simple q = rw (definition-simple kit inputs simple q) (go (find (λ o. bytes_eq o.name q) (global_definitions kit inputs)) refl)
     where
-      go : (r : Option Occurrence) → find (λ o. bytes_eq o.name q) (global_definitions kit inputs) ≡ r → IfSome (option_map (place_of kit inputs) r) (IsSimpleTarget (graph kit inputs))
+      go : (r : Option Occurrence) → find (λ o. bytes_eq o.name q) (global_definitions kit inputs) ≡ r → IfSome (option_map (symbol_target kit inputs) r) (IsSimpleTarget (graph kit inputs))
       go None e = tt
       go (Some o) e = place_simple o (find_passes (is_global_definition kit inputs) (λ o. bytes_eq o.name q) (occurrences inputs) o e)
 
@@ -131,7 +134,10 @@ module _ (kit : Kit) (inputs : List Input) (fit : AreFit inputs) (simple : IsSim
               | inr d ↦ rw (a, b, c, d, outside_frame i s kept) tt
             ]
           ]
-          | inr b ↦ rw (a, b) (or_zero (definition kit inputs (text_at (input_at inputs i).bytes symbol.name)) _ (definition_simple (text_at (input_at inputs i).bytes symbol.name)) (weak_or_not (symbol.binding == 2)))
+          | inr b ↦
+              let name = text_at (input_at inputs i).bytes symbol.name in
+              rw (a, b) (subst (λ r. IsSimpleTarget (graph kit inputs) (result_unwrap_or r Zero)) (sym (kernel_target kit simple.kernel inputs name symbol.binding))
+              (or_zero (definition kit inputs name) _ (definition_simple name) (weak_or_not (symbol.binding == 2))))
         ]
       ]
     where

@@ -144,6 +144,7 @@ module _ (kit : Kit) (inputs : List Input) (fit : AreFit inputs) (simple : IsSim
       let few : length (section_pieces kit inputs) < 2 ^ 23 = omega arith in
       let parts = length-map inputs (λ (x : Input). x.place) in
       record {
+        kernel = simple.kernel;
         no_runs = simple.runs;
         pieces = rw (commons, append-nil, parts) (all_pieces (IsSimplePiece (length inputs)) simple_own);
         count = rw (commons, append-nil) few;

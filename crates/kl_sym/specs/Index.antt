@@ -10,7 +10,8 @@ use Rattle.std.specs.declared.alloc.Global.{Global}
 use Rattle.std.specs.Borrow.{Bor}
 use Rattle.kl_model.specs.Texts.{text_at}
 use Rattle.kl_model.specs.Lists.{each, only_if}
-use Rattle.kl_model.specs.Names.{Occurrence, occurrences, definition, place_of}
+use Rattle.kl_model.specs.Names.{Occurrence, occurrences, definition}
+use Rattle.kl_model.specs.Names.{symbol_target}
 use Rattle.kl_model.specs.Faults.{is_global_definition}
 use Rattle.kl_model.specs.declared.object.Input.{Input}
 use Rattle.kl_model.specs.declared.object.Symbol.{Symbol}
@@ -45,7 +46,7 @@ abbrev pub defined_before : Kit → List Input → ℕ → List Occurrence
 defined_before kit inputs i = each (take i inputs) (defined_in kit inputs)
 
 abbrev pub definition_of : Kit → List Input → Occurrence → Definition
-definition_of kit inputs o = record { input = o.input; number = o.number; target = place_of kit inputs o }
+definition_of kit inputs o = record { input = o.input; number = o.number; target = symbol_target kit inputs o }
 
 -- those of all inputs
 abbrev pub global_definitions : Kit → List Input → List Occurrence

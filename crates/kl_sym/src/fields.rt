@@ -11,6 +11,7 @@ ghost use Rattle.kl_sym.specs.Tables.{piece_table, piece_tables};
 ghost use Rattle.kl_sym.specs.Index.{IsIndex};
 ghost use Rattle.kl_sym.specs.Targets.{faults_by, field_by, missing_by};
 ghost use Rattle.kl_sym.specs.Targets.{target_by};
+ghost use Rattle.kl_model.specs.declared.kit.KitKind.TheVariants.{Kernel};
 
 use crate::names::{Index, lookup, name_text, symbol_name, symbol_place};
 use crate::pieces::PieceTable;
@@ -141,6 +142,7 @@ fn push_fields(
     table: &PieceTable,
     index: &Index<'_>,
 ) -> Result<(), LinkFault>
+    requires kernel { kit.now.kind ≡ Kernel }
     requires inputs { AreFit inputs.now }
     requires input { i < length inputs.now }
     requires table { table.now ≡ piece_table kit.now inputs.now i }
@@ -170,6 +172,7 @@ pub fn fields(
     tables: &[PieceTable],
     index: &Index<'_>,
 ) -> Result<Vec<Field>, LinkFault>
+    requires kernel { kit.now.kind ≡ Kernel }
     requires inputs { AreFit inputs.now }
     requires tables { tables.now ≡ piece_tables kit.now inputs.now }
     requires index { IsIndex kit.now inputs.now index.now }

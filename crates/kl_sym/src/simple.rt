@@ -4,7 +4,8 @@ ghost use Rattle.std.specs.List.{list_all, list_any};
 ghost use Rattle.kl_model.specs.Fit.{section_in};
 ghost use Rattle.kl_model.specs.Areas.{named_area};
 ghost use Rattle.kl_model.specs.Line.{classes};
-ghost use Rattle.kl_model.specs.Simple.{is_empty, is_kernel, is_simple, is_simple_field, is_simple_input, is_simple_section, is_simple_symbol, known_flags, simple_kinds};
+ghost use Rattle.kl_model.specs.Simple.{is_simple, is_simple_field, is_simple_input, is_simple_section, is_simple_symbol, known_flags, simple_kinds};
+ghost use Rattle.kl_model.specs.Kits.{is_empty, is_kernel};
 ghost use Rattle.kl_base.specs.declared.class.Class.TheVariants.{Text, Rodata, Rwdata};
 ghost use Rattle.kl_model.specs.Texts.{has, text_at};
 

@@ -13,3 +13,5 @@ mod objects;
 mod placements;
 #[cfg(test)]
 mod records;
+#[cfg(test)]
+mod tables;

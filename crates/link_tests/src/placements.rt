@@ -2,8 +2,10 @@ ghost use Rattle.std.specs.Prelude.{ℕ, ◌≡◌, ◌*◌, ◌<◌, ◌≤◌,
 ghost use Rattle.kl_model.specs.Fit.{IsKernelKit};
 ghost use Rattle.kl_model.specs.Simple.{IsSimplePiece, IsSimpleGraph};
 ghost use Rattle.kl_model.specs.declared.kit.Kit.{Kit};
+ghost use Rattle.kl_base.specs.declared.limits.TheConstants.{SIZE_LIMIT};
+ghost use Rattle.kl_model.specs.declared.kit.KitKind.TheVariants.{Kernel};
 
-use kl_base::{Class, Listed, Name, NoMemory, Range};
+use kl_base::{Class, Listed, Name, NoMemory, PAGE, Range};
 use kl_layout::{LayoutFault, place};
 use kl_model::{AreaAt, Graph, Kit, KitKind, Made, Part, Piece, PieceId, Placement, Word};
 use std::alloc::Global;
@@ -25,7 +27,7 @@ fn kernel(alloc: Global, page: u64) -> Result<Kit, Fail>
     Ok(Kit {
         kind: KitKind::Kernel,
         output: Name::from_bytes(b"/bsd").ok().ok_or("a name")?,
-        base: 4096 * page,
+        base: PAGE * page,
         entry: Some(Word::new(alloc)),
         inputs: Listed::new(alloc),
         runs: Listed::new(alloc),
@@ -41,7 +43,7 @@ fn kernel(alloc: Global, page: u64) -> Result<Kit, Fail>
 
 // The `.text` of an input, aligned to 16 bytes.
 fn text(input: u32, size: u64) -> Piece
-    requires { size ≤ 2 ^ 30 }
+    requires { size ≤ SIZE_LIMIT }
     ensures { (inputs : ℕ) → input < inputs → IsSimplePiece inputs result }
 {
     Piece {
@@ -58,8 +60,8 @@ fn text(input: u32, size: u64) -> Piece
 fn graph(alloc: Global, parts: Vec<Part>, sizes: &[u64]) -> Result<Graph, NoMemory>
     requires count { length sizes.now ≡ length parts.items }
     requires few { length sizes.now ≤ 16 }
-    requires sizes { All (λ n. n ≤ 2 ^ 30) sizes.now }
-    ensures simple { IfOk result (λ g. (kit : Kit) → kit.runs ≡ [] → IsSimpleGraph kit g) }
+    requires sizes { All (λ n. n ≤ SIZE_LIMIT) sizes.now }
+    ensures simple { IfOk result (λ g. (kit : Kit) → kit.kind ≡ Kernel → kit.runs ≡ [] → IsSimpleGraph kit g) }
     ensures parts { IfOk result (λ g. g.parts ≡ parts.items) }
 {
     let mut pieces = Listed::new(alloc);

@@ -1,9 +1,10 @@
 use Rattle.std.proofs.Common.{◌≡◌, ◌+◌, ◌%◌, ◌<◌, ◌^◌, ◌∙◌, length, get_or, refl, arith}
 use Rattle.std.proofs.lemmas.List.{get_or_default}
-use Rattle.kl_model.specs.Laid.{no_placed, page, unwrapped}
+use Rattle.kl_model.specs.Laid.{no_placed, unwrapped}
+use Rattle.kl_base.specs.declared.limits.TheConstants.{PAGE}
 use Rattle.kl_model.specs.Reaches.{less}
 use Rattle.kl_model.specs.Simple.{IsSimpleField}
-use Rattle.kl_model.specs.Faults.{field_address}
+use Rattle.kl_model.specs.Leads.{field_address}
 use Rattle.kl_model.specs.declared.place.Placement.{Placement}
 use Rattle.kl_model.specs.declared.graph.Graph.{Graph}
 use Rattle.kl_model.specs.declared.graph.Field.{Field}
@@ -14,7 +15,7 @@ use Rattle.kl_kernel.proofs.fields.write_field.Goals as goal
 
 -- where a field stands in the file, by its address
 place_is : (p : Placement) (g : Graph) (f : Field) → StandInText p g → IsSimpleField g f
-    → page + less (((get_or p.pieces f.piece no_placed).address + f.offset) % 2 ^ 64) p.base ≡ field_place p f
+    → PAGE + less (((get_or p.pieces f.piece no_placed).address + f.offset) % 2 ^ 64) p.base ≡ field_place p f
 place_is p g f stand s =
     let x = get_or p.pieces f.piece no_placed in
     let l : f.piece < length p.pieces = (let e = stand.pieces in let h = s.piece in omega arith) in

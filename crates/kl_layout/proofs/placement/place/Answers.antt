@@ -2,7 +2,7 @@ use Rattle.std.proofs.Common.{ℕ, ◌≡◌, ◌<◌, ◌≤◌, ◌∙◌, Lis
 use Rattle.std.proofs.lemmas.List.Elements.{All-from_recursion, All-weaker}
 use Rattle.std.proofs.lemmas.Nat.{pow_pos}
 use Rattle.std.proofs.lemmas.Bool.{lt-ltb}
-use Rattle.kl_model.specs.Carries.{Names}
+use Rattle.kl_model.specs.Carries.{NamesPieces}
 use Rattle.kl_model.specs.Laid.{Laid, span}
 use Rattle.kl_layout.specs.Spans.{no_made}
 use Rattle.kl_layout.specs.TextLine.{text_line, IsPiecePart, address_in}
@@ -80,7 +80,7 @@ returns c =
     ) in
     record {
       laid = rw c.requires.no_made (subst (λ p. Laid p kit g None order no_made) (sym it) (laid kit g order c.requires.kit simple c.requires.order small));
-      names = subst (λ p. Names p g None) (sym it) (names kit g order simple);
+      names = subst (λ p. NamesPieces p g None) (sym it) (names kit g order simple);
       placed = rw c.requires.no_made (it ∙ sym (placed_is kit g order simple));
       small = rw c.requires.no_made small;
       err = tt;

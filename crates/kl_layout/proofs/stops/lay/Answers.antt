@@ -3,7 +3,7 @@ use Rattle.std.proofs.lemmas.List.{drop_more, length-set}
 use Rattle.std.proofs.lemmas.Map.Keys.{IsDistinct-tail}
 use Rattle.kl_model.specs.Placed.{same_body}
 use Rattle.std.proofs.lemmas.Nat.{pow_pos}
-use Rattle.kl_model.specs.Laid.{up}
+use Rattle.kl_model.specs.Lists.{up}
 use Rattle.kl_model.specs.declared.place.Body.TheVariants as body
 use Rattle.kl_layout.specs.TextLine.{AreOnce}
 use Rattle.kl_layout.proofs.Rounding.{up_wrapped, power_divides, power_small}

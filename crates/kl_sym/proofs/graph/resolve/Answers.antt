@@ -6,6 +6,7 @@ use Rattle.kl_sym.proofs.SimpleKits.{simple_kit}
 use Rattle.kl_sym.proofs.SimpleNames.{no_clashes, no_common_pieces}
 use Rattle.kl_sym.proofs.ResolveFaults.{first-doubled, first-entry, first-field, no-fault}
 use Rattle.kl_sym.proofs.graph.resolve.Goals as goal
+use Rattle.kl_model.proofs.Kernels.{no_dynamic_names}
 
 pub returns-in_err-index-clause-err : goal.returns-in_err-index-clause-err
 returns-in_err-index-clause-err c =
@@ -41,7 +42,8 @@ returns-clause-ok c =
     let kit = c.args.kit.now in let inputs = c.args.inputs.now in
     let commons = no_common_pieces kit inputs (simple_kit kit inputs c.requires.simple) in
     let entry = c.in_ok-entry.ensures.ok inputs c.in_ok-index.ensures.index in
-    rw (commons, append-nil, c.from_vec.ensures, c.from_vec-2.ensures, c.from_vec-3.ensures, c.new.ensures, c.in_ok-pieced.ensures.pieces, c.in_ok-fields.ensures.ok, entry, c.in_ok-parts.ensures) refl
+    let names = no_dynamic_names kit c.requires.kit.kernel inputs in
+    rw (commons, append-nil, names, c.from_vec.ensures, c.from_vec-2.ensures, c.from_vec-3.ensures, c.new.ensures, c.in_ok-pieced.ensures.pieces, c.in_ok-fields.ensures.ok, entry, c.in_ok-parts.ensures) refl
 
 pub returns-clause-sound : goal.returns-clause-sound
 returns-clause-sound c =
