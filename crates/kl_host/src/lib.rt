@@ -11,6 +11,3 @@ mod streams;
 
 pub use store::HostStore;
 pub use streams::{HostEntropy, HostSink};
-
-#[cfg(test)]
-mod tests;

@@ -1,5 +1,7 @@
-//! Tests of the program: words and files to a status, a cause and what is written.
+//! Tests of the program: words and files to a status, a cause and what is written; and the host's files, random device and output.
 #![tactic(auto)]
 
+#[cfg(test)]
+mod host;
 #[cfg(test)]
 mod runs;
