@@ -51,7 +51,7 @@ within_limits false true d e = cc
 within_limits false false true e = cc
 within_limits false false false e = (refl, (refl, refl))
 
-fit_alone : (x : Input) → IsFit x → over_limit x ≡ None → length x.bytes ≤ 67108864 → AreFit (x ∷ [])
+fit_alone : (x : Input) → IsFit x → over_limit x ≡ None → length x.bytes ≤ INPUT_LIMIT → AreFit (x ∷ [])
 fit_alone x fit limit small =
     let within = within_limits (nat_lt (2 ^ 20) (length x.object.sections)) (nat_lt (2 ^ 22) (length x.object.symbols)) (nat_lt (2 ^ 23) (length x.object.fields)) limit in
     let sections = ltb-false (2 ^ 20) (length x.object.sections) within.0 in
@@ -67,10 +67,10 @@ fit_alone x fit limit small =
       fields = omega (arith, fields);
     }
 
-pub is_linkable : (kit : Kit) (inputs : List Input) (x : Input) (bytes : List ℕ) → IsKernelKit kit → IsFit x → over_limit x ≡ None → length bytes ≤ 67108864 → x ≡ input_of bytes
+pub is_linkable : (kit : Kit) (inputs : List Input) (x : Input) (bytes : List ℕ) → IsKernelKit kit → IsFit x → over_limit x ≡ None → length bytes ≤ INPUT_LIMIT → x ≡ input_of bytes
     → inputs ≡ x ∷ [] → is_simple kit inputs ≡ true → IsLinkable kit inputs
 is_linkable kit inputs x bytes kernel fit limit small ex ei simple =
-    let long : length x.bytes ≤ 67108864 = rw ex small in
+    let long : length x.bytes ≤ INPUT_LIMIT = rw ex small in
     let inputs_fit : AreFit (x ∷ []) = fit_alone x fit limit long in
     record {
       kernel = kernel;
