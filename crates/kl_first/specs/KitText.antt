@@ -1,10 +1,11 @@
 -- The kit texts that are read: four lines that name an entry and one head input.
-use Rattle.std.specs.Prelude.{ℕ, ◌≡◌, Bool, true, false, not, cond, ◌&&◌, ◌==◌, nat_le, nat_eq, List, [], ◌∷◌, ◌++◌, length, codes, is_none, Option, Some, None}
+use Rattle.std.specs.Prelude.{ℕ, ◌≡◌, Bool, true, false, not, cond, if◌then◌else◌, ◌&&◌, ◌==◌, nat_le, nat_eq, List, [], ◌∷◌, ◌++◌, length, codes, is_none, Option, Some, None}
 use Rattle.std.specs.Str.{bytes_eq}
 use Rattle.std.specs.Option.{option_and_then}
 use Rattle.std.specs.List.{list_all, ends_with}
 use Rattle.kl_base.specs.Names.{name_fault, is_path_byte}
 use Rattle.kl_text.specs.Lines.{line, after_prefix, first_line}
+use Rattle.kl_model.specs.Kits.{kernel_kit}
 use Rattle.kl_model.specs.declared.kit.Kit.{Kit}
 use Rattle.kl_model.specs.declared.kit.KitKind.TheVariants.{Kernel}
 use Rattle.kl_model.specs.declared.object.Part.TheVariants.{Head}
@@ -34,7 +35,7 @@ abbrev pub opening : List ℕ
 opening = line (codes "kind kernel") ++ (line (codes "output /bsd") ++ codes "entry ")
 
 abbrev pub words_of : List ℕ → List ℕ × List ℕ → Option (List ℕ × List ℕ)
-words_of symbol (file, rest) = cond (length rest == 0) (cond (is_symbol symbol && is_file file) (Some (symbol, file)) None) None
+words_of symbol (file, rest) = if length rest == 0 then (if is_symbol symbol && is_file file then Some (symbol, file) else None) else None
 
 abbrev pub head_of : List ℕ × List ℕ → Option (List ℕ × List ℕ)
 head_of (symbol, rest) = option_and_then (λ r. option_and_then (words_of symbol) (first_line r)) (after_prefix (codes "head ") rest)
@@ -44,18 +45,4 @@ first_kit text = option_and_then (λ r. option_and_then head_of (first_line r)) 
 
 -- the kit of such a text: a kernel `/bsd` at the default base
 abbrev pub kit_of : List ℕ → List ℕ → Kit
-kit_of symbol file = record {
-  kind = Kernel;
-  output = codes "/bsd";
-  base = KERNEL_BASE;
-  entry = Some symbol;
-  inputs = record { place = Head; file = file; line = 4 } ∷ [];
-  runs = [];
-  edges = [];
-  drops = [];
-  needed = [];
-  exports = [];
-  soname = None;
-  symbolic = false;
-  refuse = false;
-}
+kit_of symbol file = kernel_kit (codes "/bsd") KERNEL_BASE symbol (record { place = Head; file = file; line = 4 } ∷ [])

@@ -7,7 +7,7 @@ ghost use Rattle.kl_first.specs.KitText.{IsFirstKit, first_kit, is_symbol, is_fi
 use kl_base::{
     FILE_LIMIT, KERNEL_BASE, Listed, Name, NoMemory, SCRATCH_SUFFIX, WORD_LIMIT, are_path_bytes,
 };
-use kl_model::{Kit, KitInput, KitKind, Part, Word};
+use kl_model::{Kit, KitInput, Part, Word};
 use kl_text::first_line;
 use std::alloc::Global;
 
@@ -71,19 +71,11 @@ pub fn kit_of(alloc: Global, kit: &FirstKit<'_>) -> Result<Kit, NoMemory>
         file,
         line: 4,
     };
-    Ok(Kit {
-        kind: KitKind::Kernel,
-        output: Name::from_bytes(b"/bsd").unwrap(),
-        base: KERNEL_BASE,
-        entry: Some(entry),
-        inputs: Listed::from_vec(vec![in alloc; input]?),
-        runs: Listed::new(alloc),
-        edges: Listed::new(alloc),
-        drops: Listed::new(alloc),
-        needed: Listed::new(alloc),
-        exports: Listed::new(alloc),
-        soname: None,
-        symbolic: false,
-        refuse: false,
-    })
+    Ok(Kit::kernel(
+        alloc,
+        Name::from_bytes(b"/bsd").unwrap(),
+        KERNEL_BASE,
+        entry,
+        Listed::from_vec(vec![in alloc; input]?),
+    ))
 }

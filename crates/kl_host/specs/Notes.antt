@@ -24,11 +24,11 @@ folders_to_sync n = n.changed.items
 abbrev pub is_broken : Notes → Bool
 is_broken n = n.broken
 
--- the folder of the name was asked for, and so was synced
+-- the folder of the name was asked for: the adapter syncs it then, which no clause can say
 abbrev pub is_known : List ℕ → Notes → Bool
 is_known name n = list_any (λ other. bytes_eq (folder_of other) (folder_of name)) n.asked.items
 
--- the file of the name was asked for, and so was synced
+-- the file of the name was asked for: the adapter syncs it then
 abbrev pub is_checked : List ℕ → Notes → Bool
 is_checked name n = is_among name n.checked.items
 
@@ -36,7 +36,7 @@ is_checked name n = is_among name n.checked.items
 abbrev pub is_relied_on : List ℕ → Bool
 is_relied_on name = is_scratch name || (pointwise nat_eq name (slot_name Kernel) || pointwise nat_eq name (slot_name Libs))
 
--- The name was asked for: its folder was synced, and the file too where it is relied on.
+-- The name was asked for: its folder is known, and the file is checked too where it is relied on.
 pub record IsAsked (name : List ℕ) (n : Notes) : Type 0 where
   pub folder : is_known name n ≡ true
   pub file : is_relied_on name ≡ true → is_checked name n ≡ true
@@ -47,7 +47,7 @@ pub record IsSettled (n : Notes) : Type 0 where
   pub folders : folders_to_sync n ≡ []
   pub whole : is_broken n ≡ false
 
--- What was to be synced still is, what was synced stays known, and so does that a sync failed.
+-- What is to be synced still is, what was asked for stays known, and so does that a sync failed.
 pub record Keeps (old new : Notes) : Type 0 where
   pub files : (name : List ℕ) → is_among name (files_to_sync old) ≡ true → is_among name (files_to_sync new) ≡ true
   pub folders : (name : List ℕ) → is_among name (folders_to_sync old) ≡ true → is_among name (folders_to_sync new) ≡ true

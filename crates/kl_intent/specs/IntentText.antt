@@ -1,5 +1,5 @@
 -- The text of an intent, and what is read of one.
-use Rattle.std.specs.Prelude.{◌≡◌, ◌+◌, ◌<◌, ◌≤◌, ◌&&◌, ℕ, zero, suc, Bool, true, false, not, cond, nat_le, nat_lt, nat_eq, List, [], ◌∷◌, ◌++◌, length, take, codes, is_none, Option, Some, None, Result, Ok, Err, ⊤}
+use Rattle.std.specs.Prelude.{◌≡◌, ◌+◌, ◌<◌, ◌≤◌, ◌&&◌, ℕ, zero, suc, Bool, true, false, not, cond, if◌then◌else◌, nat_le, nat_lt, nat_eq, List, [], ◌∷◌, ◌++◌, length, take, codes, is_none, Option, Some, None, Result, Ok, Err, ⊤}
 use Rattle.std.specs.Str.{bytes_eq}
 use Rattle.std.specs.Option.{option_map, option_and_then}
 use Rattle.std.specs.List.{flat_map, ends_with, list_all}
@@ -81,18 +81,18 @@ pub record AreEntries (entries : List Entry) : Type 0 where
 
 -- the bytes of 64 lower-case digits
 abbrev pub digits_of : List ℕ → Result (List ℕ) FromHexError → Option (List ℕ)
-digits_of word (Ok digest) = cond (bytes_eq (encode_lower digest) word) (Some digest) None
+digits_of word (Ok digest) = if bytes_eq (encode_lower digest) word then Some digest else None
 digits_of word (Err e) = None
 
 abbrev pub digest_of : List ℕ → Option (List ℕ)
 digest_of word = digits_of word (decode_sized word 32)
 
 abbrev pub old_of : List ℕ → Option (Option (List ℕ))
-old_of word = cond (bytes_eq word (45 ∷ [])) (Some None) (option_map (λ d. Some d) (digest_of word))
+old_of word = if bytes_eq word (45 ∷ []) then Some None else option_map (λ d. Some d) (digest_of word)
 
 -- the word of a target
 abbrev pub target_of : List ℕ → Option (List ℕ)
-target_of word = cond (is_target word) (Some word) None
+target_of word = if is_target word then Some word else None
 
 -- the entry of a line's words
 unfoldable pub entry_of_words : List ℕ → List ℕ → List ℕ → Option Entry
@@ -106,10 +106,10 @@ entry_of text = option_and_then (λ r. option_and_then (λ (t, u). option_and_th
 -- the entry of a line, where its target is another than those before it, and there are fewer than eight
 abbrev pub fresh : List Entry → Option Entry → Option Entry
 fresh before None = None
-fresh before (Some e) = cond (is_new e.target before) (Some e) None
+fresh before (Some e) = if is_new e.target before then Some e else None
 
 abbrev pub fresh_entry : List Entry → List ℕ → Option Entry
-fresh_entry before text = cond (nat_lt (length before) ENTRY_LIMIT) (fresh before (entry_of text)) None
+fresh_entry before text = if nat_lt (length before) ENTRY_LIMIT then fresh before (entry_of text) else None
 
 -- what is said of a line that is none: its number, behind the entries before it
 abbrev pub wrong_line : {A : Type 0} → List Entry → Result A ℕ
@@ -130,11 +130,11 @@ is_last before text = not (is_empty before) && bytes_eq text (codes "end")
 -- a line that is an entry with another target than those before it
 abbrev pub next_entry : List Entry → Option Entry → (Entry → Result (List Entry) ℕ) → Result (List Entry) ℕ
 next_entry before None more = wrong_line before
-next_entry before (Some e) more = cond (is_new e.target before) (more e) (wrong_line before)
+next_entry before (Some e) more = if is_new e.target before then more e else wrong_line before
 
 abbrev pub next_line : List Entry → Option (List ℕ × List ℕ) → (Entry → List ℕ → Result (List Entry) ℕ) → Result (List Entry) ℕ
 next_line before None more = wrong_line before
-next_line before (Some (text, rest)) more = cond (is_last before text) (end_of before rest) (next_entry before (entry_of text) (λ e. more e rest))
+next_line before (Some (text, rest)) more = if is_last before text then end_of before rest else next_entry before (entry_of text) (λ e. more e rest)
 
 -- The entries of a text, behind those before it, of which at most so many more may come; or the number of the first line
 -- that is outside the grammar.
@@ -162,7 +162,7 @@ read_head (Some rest) = read_slot rest (after_prefix (line (codes "batch kernel"
 -- what an intent's text is read as: the slot and the entries, or the number of its first line outside the grammar, 0 where
 -- there are more than 4,096 bytes
 unfoldable pub intent_read : List ℕ → Result (Slot × List Entry) ℕ
-intent_read bytes = cond (nat_lt INTENT_LIMIT (length bytes)) (Err 0) (read_head (after_prefix (line (codes "relink intent 1")) bytes))
+intent_read bytes = if nat_lt INTENT_LIMIT (length bytes) then Err 0 else read_head (after_prefix (line (codes "relink intent 1")) bytes)
 
 -- the entries of an intent in memory
 abbrev pub entries_of : Intent → List Entry

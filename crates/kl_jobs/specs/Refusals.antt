@@ -1,5 +1,5 @@
 -- Why a kit isn't linked: each refusal that stands in its files, in the order in which they are told.
-use Rattle.std.specs.Prelude.{ℕ, ◌≡◌, ◌⊎◌, Bool, ◌||◌, cond, nat_lt, List, [], ◌∷◌, ◌++◌, length, codes, nat_eq, Option, Some, None, unwrap_or}
+use Rattle.std.specs.Prelude.{ℕ, ◌≡◌, ◌⊎◌, Bool, ◌||◌, cond, if◌then◌else◌, nat_lt, List, [], ◌∷◌, ◌++◌, length, codes, nat_eq, Option, Some, None, unwrap_or}
 use Rattle.std.specs.Option.{ForSome, option_map, option_or}
 use Rattle.std.specs.List.{starts_with}
 use Rattle.std.specs.FinMap.{get}
@@ -36,7 +36,7 @@ held m name = unwrap_or (get m name) []
 -- why a file isn't read: the name is absent, or its file is longer than the limit
 abbrev pub fault_of : List ℕ → ℕ → Option (List ℕ) → Option Cause
 fault_of name limit None = Some (cause.Kit (Absent name))
-fault_of name limit (Some bytes) = cond (nat_lt limit (length bytes)) (Some (cause.Kit (TooLong name))) None
+fault_of name limit (Some bytes) = if nat_lt limit (length bytes) then Some (cause.Kit (TooLong name)) else None
 
 abbrev pub file_fault : Names → List ℕ → ℕ → Option Cause
 file_fault m name limit = fault_of name limit (get m name)
@@ -52,9 +52,9 @@ input_of b = record { place = Head; bytes = b; object = object b }
 -- what an input has too much of for a kit
 abbrev pub over_limit : Input → Option TotalOf
 over_limit x =
-    cond (nat_lt SECTION_COUNT_LIMIT (length x.object.sections)) (Some Sections)
-    (cond (nat_lt SYMBOL_COUNT_LIMIT (length x.object.symbols)) (Some Symbols)
-    (cond (nat_lt FIELD_COUNT_LIMIT (length x.object.fields)) (Some Fields) None))
+    if nat_lt SECTION_COUNT_LIMIT (length x.object.sections) then Some Sections
+    else if nat_lt SYMBOL_COUNT_LIMIT (length x.object.symbols) then Some Symbols
+    else if nat_lt FIELD_COUNT_LIMIT (length x.object.fields) then Some Fields else None
 
 -- the first refusal of the bytes of input 0, which stands in line 4 of the kit text
 abbrev pub flaw_cause : ReadFault → Cause
@@ -64,11 +64,11 @@ abbrev pub total_cause : TotalOf → Cause
 total_cause what = cause.Kit (Total what 4)
 
 unfoldable pub bytes_refusal : List ℕ → Option Cause
-bytes_refusal b = cond (is_archive b) (Some NotYet) (option_or (option_map flaw_cause (flaw b)) (option_map total_cause (over_limit (input_of b))))
+bytes_refusal b = if is_archive b then Some NotYet else option_or (option_map flaw_cause (flaw b)) (option_map total_cause (over_limit (input_of b)))
 
 -- the first refusal of a kit whose inputs are read
 abbrev pub kit_refusal : Kit → List Input → Option Cause
-kit_refusal kit inputs = cond (is_simple kit inputs) (option_map cause.Link (link_fault kit inputs None [])) (Some NotYet)
+kit_refusal kit inputs = if is_simple kit inputs then option_map cause.Link (link_fault kit inputs None []) else Some NotYet
 
 -- the first refusal of an input, and then of the kit
 abbrev pub input_refusal : Names → List ℕ → List ℕ × List ℕ → Option Cause

@@ -13,7 +13,8 @@ use Rattle.kl_model.specs.Relocations.{width, in_range}
 use Rattle.kl_model.specs.Leads.{address_of}
 use Rattle.kl_model.specs.Faults.{does_fit}
 use Rattle.kl_model.specs.Leads.{field_address, value_target}
-use Rattle.kl_model.specs.Simple.{IsSimpleField, IsSimpleTarget, StandApart}
+use Rattle.kl_model.specs.Simple.{IsSimpleField, IsSimpleTarget}
+use Rattle.kl_model.specs.Sound.{StandApart}
 use Rattle.kl_model.specs.declared.graph.Field.{Field}
 use Rattle.kl_model.specs.declared.graph.Graph.{Graph}
 use Rattle.kl_model.specs.declared.graph.Target.{Target}

@@ -15,8 +15,7 @@ use Rattle.kl_model.specs.declared.kit.Kit.{Kit}
 use Rattle.kl_model.specs.declared.graph.Graph.{Graph}
 use Rattle.kl_model.specs.declared.place.Placement.{Placement}
 use Rattle.kl_sym.proofs.SimpleKits.{simple_kit}
-use Rattle.kl_sym.proofs.SoundGraph.{simple_graph}
-use Rattle.kl_sym.proofs.SoundFields.{writable}
+use Rattle.kl_sym.proofs.SimpleGraphs.{simple_graph, writable}
 use Rattle.kl_sym.proofs.ResolveFaults.{sound-fields}
 use Rattle.kl_layout.specs.Spans.{as_link_fault, layout_fault, no_made}
 use Rattle.kl_layout.specs.declared.fault.LayoutFault.{LayoutFault}

@@ -8,7 +8,7 @@ use Rattle.kl_base.specs.declared.class.Class.{Class}
 use Rattle.kl_base.specs.declared.class.Class.TheVariants.{Text, Rodata, Rwdata, Bss}
 use Rattle.kl_model.specs.Lists.{each}
 use Rattle.kl_model.specs.Areas.{class_number}
-use Rattle.kl_model.specs.Line.{every_part, line, piece_part}
+use Rattle.kl_model.specs.Line.{every_part, class_line, piece_part}
 use Rattle.kl_model.specs.Sizes.{made_of, page_of}
 use Rattle.kl_model.specs.Slots.{same_target, slots, takes_slot, way_of}
 use Rattle.kl_model.specs.Lists.{once}
@@ -74,7 +74,7 @@ module _ (kit : Kit) (inputs : List Input) (g : Graph) (order : List ℕ) (p : P
   ordered : InOrder p
   ordered = classes_in_order kit g order p fit simple o laid names is small
 
-  in_line : (n : ℕ) (h : n < length g.pieces) (a : ℕ) → Within (stands_at p n) (piece_at g n).size a → InPart p g (line kit g None order no_made Text) a
+  in_line : (n : ℕ) (h : n < length g.pieces) (a : ℕ) → Within (stands_at p n) (piece_at g n).size a → InPart p g (class_line kit g None order no_made Text) a
   in_line = piece_in_line kit g order p fit simple o laid names is small
 
   is_text : (n : ℕ) → n < length g.pieces → (piece_at g n).class ≡ Text
@@ -167,7 +167,7 @@ module _ (kit : Kit) (inputs : List Input) (g : Graph) (order : List ℕ) (p : P
     reached k d h = reaches (get_or g.fields k d) (writable.fields k d h) (image.hold k d h)
 
     -- what is in no piece is padding
-    in_no_piece : (a : ℕ) → InArea p 0 a → ¬ InPart p g (line kit g None order no_made Text) a → InNoPiece p g (file_place p a)
+    in_no_piece : (a : ℕ) → InArea p 0 a → ¬ InPart p g (class_line kit g None order no_made Text) a → InNoPiece p g (file_place p a)
     in_no_piece a w free n h =
         let inside = stand.within n h in let start = stand.start in
         elim (cases_lt a (stands_at p n)) [
@@ -178,14 +178,14 @@ module _ (kit : Kit) (inputs : List Input) (g : Graph) (order : List ℕ) (p : P
           ]
         ]
 
-    plain : (c : Class) (a : ℕ) → InArea p (class_number c) a → ¬ InPart p g (line kit g None order no_made c) a → HasByte img a (padding c) c
+    plain : (c : Class) (a : ℕ) → InArea p (class_number c) a → ¬ InPart p g (class_line kit g None order no_made c) a → HasByte img a (padding c) c
     plain Text a w free =
         mem_file img p Text a ordered image.segments refl w ∙ ap (λ b. Some (record { byte = b; flags = 5 })) (image.padding a w (in_no_piece a w free))
     plain Rodata a w free = absurd (omega (arith, only.0, w.0, w.1))
     plain Rwdata a w free = absurd (omega (arith, only.1.0, w.0, w.1))
     plain Bss a w free = absurd (omega (arith, only.1.1, w.0, w.1))
 
-    padded : Padded img p g (line kit g None order no_made)
+    padded : Padded img p g (class_line kit g None order no_made)
     padded = record {
       plain = λ c a w free no_init no_fini. plain c a w free;
       nops = λ a w free. absurd (no_nops a w);

@@ -11,7 +11,7 @@ use Rattle.kl_le.specs.Bytes.{Within}
 use Rattle.kl_base.specs.declared.class.Class.{Class}
 use Rattle.kl_base.specs.declared.class.Class.TheVariants.{Text, Rodata, Rwdata, Bss}
 use Rattle.kl_model.specs.Areas.{class_number}
-use Rattle.kl_model.specs.Line.{line, spreads}
+use Rattle.kl_model.specs.Line.{class_line, spreads}
 use Rattle.kl_model.specs.Fit.{IsKernelKit}
 use Rattle.kl_model.specs.Lists.{each}
 use Rattle.std.proofs.lemmas.List.Elements.{All-append}
@@ -92,12 +92,12 @@ module _ (kit : Kit) (g : Graph) (order : List ℕ) (p : Placement) (fit : IsKer
   at = place_of p g
 
   abbrev text : List LinePart
-  text = line kit g None order no_made Text
+  text = class_line kit g None order no_made Text
 
   aligned_text : Aligned text
   aligned_text = rw (line_text kit g simple order) (aligned_parts (length g.pieces) (text_line g order) (line_pieces kit g simple order))
 
-  aligned : (c : Class) → Aligned (line kit g None order no_made c)
+  aligned : (c : Class) → Aligned (class_line kit g None order no_made c)
   aligned Text = aligned_text
   aligned Rodata = rw (line_rodata kit g simple order) tt
   aligned Rwdata = rw (line_rwdata kit g simple order) tt
@@ -232,7 +232,7 @@ module _ (kit : Kit) (g : Graph) (order : List ℕ) (p : Placement) (fit : IsKer
       }
 
   -- a class without a part has no byte
-  empty_class : (c : Class) (from : ℕ) → ClassLaid p kit g None order no_made c from → line kit g None order no_made c ≡ [] → p.base ≤ from → from < p.base + 2 ^ 64
+  empty_class : (c : Class) (from : ℕ) → ClassLaid p kit g None order no_made c from → class_line kit g None order no_made c ≡ [] → p.base ≤ from → from < p.base + 2 ^ 64
       → (class_size p c ≡ 0) × ((area_at p (class_number c)).end ≡ from)
   empty_class c from l none low high =
       let base = laid.base in let limit = fit.base_limit in

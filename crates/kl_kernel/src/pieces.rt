@@ -31,8 +31,7 @@ pub fn write_pieces(image: &mut [u8], inputs: &[Input], graph: &Graph, placement
 {
     for (n, piece) in graph.pieces.items().iter().enumerate() {
         if let PieceId::Section { input, .. } = piece.id {
-            let at = piece.bytes.at as usize;
-            let bytes = &inputs[input as usize].bytes.items()[at..at + piece.bytes.len as usize];
+            let bytes = inputs[input as usize].text(piece.bytes);
             let address = placement.pieces.items()[n].address;
             put_bytes(image, file_place(placement.base, address), bytes);
         }

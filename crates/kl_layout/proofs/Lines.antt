@@ -9,7 +9,7 @@ use Rattle.std.proofs.lemmas.Map.Steps.{length-le_from_distinct_below}
 use Rattle.kl_base.specs.declared.class.Class.{Class}
 use Rattle.kl_base.specs.declared.class.Class.TheVariants.{Text, Rodata, Rwdata, Bss}
 use Rattle.kl_model.specs.Areas.{same_class, class_number}
-use Rattle.kl_model.specs.Line.{Spread, spreads, line, sequence, piece_part, piece_parts, is_of_input, is_common_id, of_input}
+use Rattle.kl_model.specs.Line.{Spread, spreads, class_line, sequence, piece_part, piece_parts, is_of_input, is_common_id, of_input}
 use Rattle.kl_model.specs.Simple.{IsSimpleGraph}
 use Rattle.kl_model.specs.Orders.{drawn_count, IsOrder}
 use Rattle.kl_model.specs.Placed.{same_body, stop_of}
@@ -196,14 +196,14 @@ module _ (kit : Kit) (g : Graph) (simple : IsSimpleGraph kit g) where
   abbrev parts_of : List Spread → List LinePart
   parts_of ss = flat_map (λ s. s.parts) ss
 
-  pub line_text : (order : List ℕ) → line kit g None order no_made Text ≡ text_line g order
+  pub line_text : (order : List ℕ) → class_line kit g None order no_made Text ≡ text_line g order
   line_text order = ap parts_of (spreads_text order) ∙ append-nil (text_line g order)
 
-  pub line_rodata : (order : List ℕ) → line kit g None order no_made Rodata ≡ []
+  pub line_rodata : (order : List ℕ) → class_line kit g None order no_made Rodata ≡ []
   line_rodata order = ap parts_of (spreads_rodata order)
 
-  pub line_rwdata : (order : List ℕ) → line kit g None order no_made Rwdata ≡ []
+  pub line_rwdata : (order : List ℕ) → class_line kit g None order no_made Rwdata ≡ []
   line_rwdata order = ap parts_of (spreads_rwdata order)
 
-  pub line_bss : (order : List ℕ) → line kit g None order no_made Bss ≡ []
+  pub line_bss : (order : List ℕ) → class_line kit g None order no_made Bss ≡ []
   line_bss order = ap parts_of (spreads_bss order)

@@ -1,5 +1,5 @@
 -- When a graph is not laid out.
-use Rattle.std.specs.Prelude.{ℕ, cond, nat_lt, Option, Some, None}
+use Rattle.std.specs.Prelude.{ℕ, cond, if◌then◌else◌, nat_lt, Option, Some, None}
 use Rattle.kl_base.specs.declared.limits.TheConstants.{SPAN_LIMIT}
 use Rattle.kl_model.specs.declared.place.Made.{Made}
 use Rattle.kl_layout.specs.declared.fault.LayoutFault.{LayoutFault}
@@ -13,7 +13,7 @@ no_made = record { stubs = 0; tables = 0; got = 0; dynamic = 0 }
 
 -- the fault of a span: it passes the limit
 abbrev pub layout_fault : ℕ → Option LayoutFault
-layout_fault n = cond (nat_lt SPAN_LIMIT n) (Some (fault.Span n SPAN_LIMIT)) None
+layout_fault n = if nat_lt SPAN_LIMIT n then Some (fault.Span n SPAN_LIMIT) else None
 
 -- such a fault as the fault of a link
 abbrev pub as_link_fault : LayoutFault → LinkFault

@@ -18,7 +18,7 @@ use Rattle.kl_base.specs.declared.class.Class.{Class}
 use Rattle.kl_model.specs.Laid.{place_of}
 use Rattle.kl_model.specs.Carries.{Apart, piece_at, no_piece}
 use Rattle.kl_model.specs.Relocations.{width}
-use Rattle.kl_model.specs.Simple.{StandApart}
+use Rattle.kl_model.specs.Sound.{StandApart}
 use Rattle.kl_model.specs.declared.graph.Field.{Field}
 use Rattle.kl_model.specs.declared.place.Body.{Body}
 use Rattle.kl_model.specs.declared.place.Body.TheVariants as body

@@ -3,7 +3,7 @@ use Rattle.std.proofs.Common.{ℕ, zero, suc, ◌≡◌, ◌+◌, ◌-◌, ◌%�
 use Rattle.std.specs.Prelude.{Some, slice_get, flat_map, fold, max}
 use Rattle.std.proofs.Math.Nat.{lt-div-mul-add, le-max_left}
 use Rattle.kl_model.specs.Areas.{class_number}
-use Rattle.kl_model.specs.Line.{line, Spread, spreads}
+use Rattle.kl_model.specs.Line.{class_line, Spread, spreads}
 use Rattle.kl_base.specs.declared.limits.TheConstants.{BASE_LIMIT, PAGE, SPAN_LIMIT}
 use Rattle.kl_model.specs.declared.place.Made.{Made}
 use Rattle.kl_model.specs.Sizes.{page_for, page_of, text_from, text_from_for}
@@ -70,15 +70,15 @@ areas-stand p at from (s ∷ ss) a = stand-append at from s.parts (flat_map (λ 
 pub record IsLaidFrom (p : Placement) (kit : Kit) (g : Graph) (gaps : Option Gaps) (order : List ℕ) (made : Made) (c : Class) (from : ℕ) : Type 0 where
   pub start : from ≤ (area_at p (class_number c)).start
   pub ordered : (area_at p (class_number c)).start ≤ (area_at p (class_number c)).end
-  pub ends : (area_at p (class_number c)).end ≡ reach from (line kit g gaps order made c)
+  pub ends : (area_at p (class_number c)).end ≡ reach from (class_line kit g gaps order made c)
 
 pub class_is : (p : Placement) (kit : Kit) (g : Graph) (gaps : Option Gaps) (order : List ℕ) (made : Made) (c : Class) (from : ℕ) → ClassLaid p kit g gaps order made c from
-    → Aligned (line kit g gaps order made c) → p.base < 2 ^ 64 → p.base ≤ from → reach from (line kit g gaps order made c) < p.base + 2 ^ 64 → IsLaidFrom p kit g gaps order made c from
+    → Aligned (class_line kit g gaps order made c) → p.base < 2 ^ 64 → p.base ≤ from → reach from (class_line kit g gaps order made c) < p.base + 2 ^ 64 → IsLaidFrom p kit g gaps order made c from
 class_is p kit g gaps order made c from l a b f h =
     let stand = areas-stand p (place_of p g) from (spreads kit g gaps order made c) l.areas in
-    let s = le-start (place_of p g) from (line kit g gaps order made c) a stand in
-    let e = end-reach (place_of p g) from (line kit g gaps order made c) stand in
-    let both = area_is p (class_number c) (start_of (place_of p g) from (line kit g gaps order made c)) (end_of (place_of p g) from (line kit g gaps order made c)) l.class b
+    let s = le-start (place_of p g) from (class_line kit g gaps order made c) a stand in
+    let e = end-reach (place_of p g) from (class_line kit g gaps order made c) stand in
+    let both = area_is p (class_number c) (start_of (place_of p g) from (class_line kit g gaps order made c)) (end_of (place_of p g) from (class_line kit g gaps order made c)) l.class b
     (omega (arith, s.0)) (omega (arith, s.1, e)) (omega (arith, e)) in
     record { start = omega (arith, both.0, s.0); ordered = omega (arith, both.0, both.1, s.1, e); ends = both.1 ∙ e }
 
@@ -103,21 +103,21 @@ base-le kit g = go kit.kind
 
 -- the classes of a laid placement are in order
 pub laid_in_order : (p : Placement) (kit : Kit) (g : Graph) (gaps : Option Gaps) (order : List ℕ) (made : Made) → Laid p kit g gaps order made → span kit g gaps order made ≤ SPAN_LIMIT
-    → kit.base ≤ BASE_LIMIT → ((c : Class) → Aligned (line kit g gaps order made c)) → InOrder p
+    → kit.base ≤ BASE_LIMIT → ((c : Class) → Aligned (class_line kit g gaps order made c)) → InOrder p
 laid_in_order p kit g gaps order made l small limit a =
     let base = l.base in
     let n = page_of kit g in
     let pos : 0 < n = page-pos kit g in
     let from = text_from kit g in
     let past : kit.base ≤ from = base-le kit g in
-    let t = reach from (line kit g gaps order made Text) in
-    let r = reach (up t n) (line kit g gaps order made Rodata) in
-    let w = reach (up r n) (line kit g gaps order made Rwdata) in
-    let z = reach (up w n) (line kit g gaps order made Bss) in
-    let lt : from ≤ t = le-reach from (line kit g gaps order made Text) (a Text) in
-    let lr : up t n ≤ r = le-reach (up t n) (line kit g gaps order made Rodata) (a Rodata) in
-    let lw : up r n ≤ w = le-reach (up r n) (line kit g gaps order made Rwdata) (a Rwdata) in
-    let lz : up w n ≤ z = le-reach (up w n) (line kit g gaps order made Bss) (a Bss) in
+    let t = reach from (class_line kit g gaps order made Text) in
+    let r = reach (up t n) (class_line kit g gaps order made Rodata) in
+    let w = reach (up r n) (class_line kit g gaps order made Rwdata) in
+    let z = reach (up w n) (class_line kit g gaps order made Bss) in
+    let lt : from ≤ t = le-reach from (class_line kit g gaps order made Text) (a Text) in
+    let lr : up t n ≤ r = le-reach (up t n) (class_line kit g gaps order made Rodata) (a Rodata) in
+    let lw : up r n ≤ w = le-reach (up r n) (class_line kit g gaps order made Rwdata) (a Rwdata) in
+    let lz : up w n ≤ z = le-reach (up w n) (class_line kit g gaps order made Bss) (a Bss) in
     let ut : t ≤ up t n = le-up t n pos in
     let ur : r ≤ up r n = le-up r n pos in
     let uw : w ≤ up w n = le-up w n pos in

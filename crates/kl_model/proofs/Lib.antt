@@ -12,3 +12,5 @@ pub mod ImageBytes
 pub mod Resolutions
 pub mod Libraries
 pub mod LibraryImages
+pub mod ListWords
+pub mod StandOnce

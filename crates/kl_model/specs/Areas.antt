@@ -1,6 +1,6 @@
 -- The areas of an image, as the table of the code has them: where a constant holds texts, definitions can't cite it.
-use Rattle.std.specs.Prelude.{ℕ, Bool, true, false, not, ◌&&◌, ◌==◌, List, [], ◌∷◌, find, length, slice_get, codes, Option}
-use Rattle.std.specs.Option.{option_map}
+use Rattle.std.specs.Prelude.{ℕ, Bool, true, false, not, ◌&&◌, ◌||◌, ◌==◌, List, [], ◌∷◌, map, filter, find, length, slice_get, codes, Option}
+use Rattle.std.specs.Option.{option_map, option_map_or}
 use Rattle.std.specs.Str.{bytes_eq}
 use Rattle.kl_base.specs.declared.class.Class.{Class}
 use Rattle.kl_base.specs.declared.class.Class.TheVariants.{Text, Rodata, Rwdata, Bss}
@@ -66,3 +66,19 @@ named_area c name = first_area c (λ x. not (length x.section == 0) && bytes_eq 
 -- the number of the area that a section's type gives
 abbrev pub typed_area : Class → ℕ → Option ℕ
 typed_area c kind = first_area c (λ x. not (x.section_type == SHT_NULL) && (x.section_type == kind))
+
+-- an `edge` line may name the area of a number
+abbrev pub may_have_edge : ℕ → Bool
+may_have_edge n = option_map_or (λ x. x.edge) (slice_get areas n) false
+
+-- the linker makes the bytes of the area of a number
+abbrev pub is_made : ℕ → Bool
+is_made n = option_map_or (λ x. x.made) (slice_get areas n) false
+
+-- a row gives its area to sections by their name or by their type
+abbrev pub is_named : Area → Bool
+is_named x = not (length x.section == 0) || not (x.section_type == SHT_NULL)
+
+-- the areas of a class that sections stand in by their name or their type
+abbrev pub named_areas : Class → List ℕ
+named_areas c = map (λ x. x.number) (filter (λ x. same_class x.class c && is_named x) areas)

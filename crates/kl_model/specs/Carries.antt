@@ -10,7 +10,7 @@ use Rattle.kl_model.specs.Lists.{only_if}
 use Rattle.kl_model.specs.Kept.{input_at}
 use Rattle.kl_model.specs.Areas.{class_number}
 use Rattle.kl_model.specs.Graphs.{graph}
-use Rattle.kl_model.specs.Line.{line, classes, every_part, gap_size}
+use Rattle.kl_model.specs.Line.{class_line, classes, every_part, gap_size}
 use Rattle.kl_model.specs.Slots.{Way, Directly, BySlot, ByStub, Nowhere, is_loaded, slots, way}
 use Rattle.kl_model.specs.Sizes.{made_of, page_of}
 use Rattle.kl_model.specs.Leads.{address_of, slot_place, target_slot, target_stub}
@@ -190,10 +190,10 @@ abbrev pub InArea : Placement → ℕ → ℕ → Type 0
 InArea p n a = ((area_at p n).start ≤ a) × (a < (area_at p n).end)
 
 -- the areas `init` and `fini` are padded by the instruction nop
-pub record Padded (img : List ℕ) (p : Placement) (g : Graph) (line : Class → List LinePart) : Type 0 where
-  pub plain : (c : Class) (a : ℕ) → InArea p (class_number c) a → ¬ InPart p g (line c) a
+pub record Padded (img : List ℕ) (p : Placement) (g : Graph) (parts : Class → List LinePart) : Type 0 where
+  pub plain : (c : Class) (a : ℕ) → InArea p (class_number c) a → ¬ InPart p g (parts c) a
       → ¬ InArea p area.INIT a → ¬ InArea p area.FINI a → HasByte img a (padding c) c
-  pub nops : (a : ℕ) → InArea p area.INIT a ⊎ InArea p area.FINI a → ¬ InPart p g (line Text) a → HasByte img a area.NOP Text
+  pub nops : (a : ℕ) → InArea p area.INIT a ⊎ InArea p area.FINI a → ¬ InPart p g (parts Text) a → HasByte img a area.NOP Text
 
 -- 7. the headers and the rest of the file
 abbrev pub class_size : Placement → Class → ℕ
@@ -306,7 +306,7 @@ pub record CarriesGraph (img : List ℕ) (p : Placement) (kit : Kit) (inputs : L
   pub contents : Contents img p inputs g gaps
   pub reached : Reached kit.kind img p inputs g (page_of kit g) (span kit g gaps order (made_of kit g))
   pub made : MadeHolds kit.kind img p kit inputs g
-  pub padded : Padded img p g (line kit g gaps order (made_of kit g))
+  pub padded : Padded img p g (class_line kit g gaps order (made_of kit g))
   pub file : File img (head_for kit.kind (segments_for kit.kind (page_of kit g) p) p g) (segments_for kit.kind (page_of kit g) p)
 
 -- An image and a placement carry a kit: they carry its link graph, whose drawn inputs stand in this order.

@@ -1,6 +1,8 @@
 -- What the kind of a kit decides of its names.
-use Rattle.std.specs.Prelude.{Bool, true, false, not, ◌||◌, ℕ, List, [], ◌∷◌}
+use Rattle.std.specs.Prelude.{Bool, true, false, not, ◌||◌, ℕ, List, [], ◌∷◌, Some, None}
 use Rattle.kl_model.specs.Lists.{among}
+use Rattle.kl_model.specs.declared.kit.Kit.{Kit}
+use Rattle.kl_model.specs.declared.kit.KitInput.{KitInput}
 use Rattle.kl_model.specs.declared.kit.KitKind.{KitKind}
 use Rattle.kl_model.specs.declared.kit.KitKind.TheVariants.{Kernel, Library}
 
@@ -26,3 +28,21 @@ may_replace Library symbolic = not symbolic
 abbrev pub may_import : KitKind → Bool → Bool
 may_import Kernel refuse = false
 may_import Library refuse = not refuse
+
+-- a kernel's kit with no line but those that each has: its output, its base, its entry and its inputs
+abbrev pub kernel_kit : List ℕ → ℕ → List ℕ → List KitInput → Kit
+kernel_kit output base entry inputs = record {
+  kind = Kernel;
+  output = output;
+  base = base;
+  entry = Some entry;
+  inputs = inputs;
+  runs = [];
+  edges = [];
+  drops = [];
+  needed = [];
+  exports = [];
+  soname = None;
+  symbolic = false;
+  refuse = false;
+}

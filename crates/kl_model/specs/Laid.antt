@@ -2,7 +2,7 @@
 use Rattle.std.specs.Prelude.{ℕ, ◌+◌, ◌-◌, ◌%◌, ◌^◌, ◌≡◌, cond, if◌then◌else◌, nat_lt, List, [], ◌∷◌, length, slice_get, slice_index_or, Option, Some, IfSome}
 use Rattle.kl_model.specs.Lists.{up}
 use Rattle.kl_model.specs.Sizes.{page_of, text_from}
-use Rattle.kl_model.specs.Line.{Spread, spreads, line}
+use Rattle.kl_model.specs.Line.{Spread, spreads, class_line}
 use Rattle.kl_model.specs.Areas.{class_number}
 use Rattle.kl_base.specs.declared.class.Class.{Class}
 use Rattle.kl_base.specs.declared.class.Class.TheVariants.{Text, Rodata, Rwdata, Bss}
@@ -70,7 +70,7 @@ AreasStand p at from (s ∷ ss) =
 -- a class that is laid from an address on
 pub record ClassLaid (p : Placement) (kit : Kit) (g : Graph) (gaps : Option Gaps) (order : List ℕ) (made : Made) (c : Class) (from : ℕ) : Type 0 where
   pub areas : AreasStand p (place_of p g) from (spreads kit g gaps order made c)
-  pub class : IsArea p (class_number c) (start_of (place_of p g) from (line kit g gaps order made c)) (end_of (place_of p g) from (line kit g gaps order made c))
+  pub class : IsArea p (class_number c) (start_of (place_of p g) from (class_line kit g gaps order made c)) (end_of (place_of p g) from (class_line kit g gaps order made c))
 
 -- where a class ends
 abbrev pub class_end : Placement → Class → ℕ
@@ -94,7 +94,7 @@ reach from (x ∷ xs) = reach (up from x.align + x.size) xs
 -- from the base to the end of bss, in bytes
 abbrev pub span : Kit → Graph → Option Gaps → List ℕ → Made → ℕ
 span kit g gaps order made =
-    let text = reach (text_from kit g) (line kit g gaps order made Text) in
-    let rodata = reach (up text (page_of kit g)) (line kit g gaps order made Rodata) in
-    let rwdata = reach (up rodata (page_of kit g)) (line kit g gaps order made Rwdata) in
-    reach (up rwdata (page_of kit g)) (line kit g gaps order made Bss) - kit.base
+    let text = reach (text_from kit g) (class_line kit g gaps order made Text) in
+    let rodata = reach (up text (page_of kit g)) (class_line kit g gaps order made Rodata) in
+    let rwdata = reach (up rodata (page_of kit g)) (class_line kit g gaps order made Rwdata) in
+    reach (up rwdata (page_of kit g)) (class_line kit g gaps order made Bss) - kit.base

@@ -26,3 +26,4 @@ pub mod Loaded
 pub mod Found
 pub mod Image
 pub mod Roomy
+pub mod Sound

@@ -110,8 +110,8 @@ abbrev pub spreads : Kit → Graph → Option Gaps → List ℕ → Made → Cla
 spreads kit g gaps order made c = ordinary g gaps order c ∷ (run_spreads kit g order c ++ last_spreads kit.kind g made c)
 
 -- the parts of a class in order
-abbrev pub line : Kit → Graph → Option Gaps → List ℕ → Made → Class → List LinePart
-line kit g gaps order made c = flat_map (λ s. s.parts) (spreads kit g gaps order made c)
+abbrev pub class_line : Kit → Graph → Option Gaps → List ℕ → Made → Class → List LinePart
+class_line kit g gaps order made c = flat_map (λ s. s.parts) (spreads kit g gaps order made c)
 
 -- every piece, every gap and every made area that isn't empty
 abbrev pub every_part : Graph → Option Gaps → Made → List LinePart

@@ -108,9 +108,13 @@ edge_lines kit =
     each_from area.FIRST_RUN (λ k r. (r.line, (r.start, Edge k false) ∷ (r.end, Edge k true) ∷ []) ∷ []) kit.runs
     ++ map (λ e. (e.line, (e.symbol, Edge e.area e.end) ∷ [])) kit.edges
 
--- those names in line order
+-- those lines by number
+abbrev pub lines_in_order : Kit → List (ℕ × List (List ℕ × Target))
+lines_in_order kit = in_order (λ x y. nat_lt x.0 y.0) (edge_lines kit)
+
+-- their names
 abbrev pub edge_names : Kit → List (List ℕ × Target)
-edge_names kit = flat_map (λ x. x.1) (in_order (λ x y. nat_lt x.0 y.0) (edge_lines kit))
+edge_names kit = flat_map (λ x. x.1) (lines_in_order kit)
 
 -- the edge of a name (this project's own)
 abbrev pub edge_of : Kit → List ℕ → Option Target

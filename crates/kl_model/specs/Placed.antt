@@ -6,7 +6,7 @@ use Rattle.kl_base.specs.declared.class.Class.{Class}
 use Rattle.kl_base.specs.declared.class.Class.TheVariants.{Text, Rodata, Rwdata, Bss}
 use Rattle.kl_model.specs.Lists.{each, each_from}
 use Rattle.kl_model.specs.Areas.{same_class}
-use Rattle.kl_model.specs.Line.{Spread, spreads, line, classes, gap_size}
+use Rattle.kl_model.specs.Line.{Spread, spreads, class_line, classes, gap_size}
 use Rattle.kl_model.specs.Lists.{up}
 use Rattle.kl_model.specs.Sizes.{page_of, text_from}
 use Rattle.kl_model.specs.Laid.{reach, no_area}
@@ -50,13 +50,13 @@ extent_of n from (s ∷ ss) = if option_map_or (λ m. m == n) s.area false then 
 module _ (kit : Kit) (g : Graph) (gaps : Option Gaps) (order : List ℕ) (made : Made) where
   -- where each class is laid from
   abbrev pub rodata_from : ℕ
-  rodata_from = up (reach (text_from kit g) (line kit g gaps order made Text)) (page_of kit g)
+  rodata_from = up (reach (text_from kit g) (class_line kit g gaps order made Text)) (page_of kit g)
 
   abbrev pub rwdata_from : ℕ
-  rwdata_from = up (reach rodata_from (line kit g gaps order made Rodata)) (page_of kit g)
+  rwdata_from = up (reach rodata_from (class_line kit g gaps order made Rodata)) (page_of kit g)
 
   abbrev pub bss_from : ℕ
-  bss_from = up (reach rwdata_from (line kit g gaps order made Rwdata)) (page_of kit g)
+  bss_from = up (reach rwdata_from (class_line kit g gaps order made Rwdata)) (page_of kit g)
 
   abbrev pub class_from : Class → ℕ
   class_from Text = text_from kit g
@@ -66,7 +66,7 @@ module _ (kit : Kit) (g : Graph) (gaps : Option Gaps) (order : List ℕ) (made :
 
   -- the extents of a class and of an area
   abbrev pub class_extent : Class → AreaAt
-  class_extent c = extent (class_from c) (line kit g gaps order made c)
+  class_extent c = extent (class_from c) (class_line kit g gaps order made c)
 
   abbrev pub spread_extent : ℕ → Class → Option AreaAt
   spread_extent n c = extent_of n (class_from c) (spreads kit g gaps order made c)
@@ -76,7 +76,7 @@ module _ (kit : Kit) (g : Graph) (gaps : Option Gaps) (order : List ℕ) (made :
 
   -- the address of a body that stands in a class
   abbrev pub stop_in : Class → Body → ℕ
-  stop_in c b = unwrap_or (stop_of b (class_from c) (line kit g gaps order made c)) 0 % 2 ^ 64
+  stop_in c b = unwrap_or (stop_of b (class_from c) (class_line kit g gaps order made c)) 0 % 2 ^ 64
 
   abbrev pub placed_gaps : Option Gaps → List Placed
   placed_gaps None = []

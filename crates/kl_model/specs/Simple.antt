@@ -7,6 +7,7 @@ use Rattle.kl_model.specs.Kept.{input_at}
 use Rattle.kl_model.specs.Areas.{named_area}
 use Rattle.kl_model.specs.Relocations.{is_kind, width}
 use Rattle.kl_model.specs.Carries.{piece_at}
+use Rattle.kl_model.specs.Sound.{StandApart}
 use Rattle.kl_model.specs.Line.{classes}
 use Rattle.kl_model.specs.Fit.{section_in}
 use Rattle.kl_model.specs.declared.object.Section.{Section}
@@ -105,10 +106,6 @@ pub record IsSimpleField (g : Graph) (f : Field) : Type 0 where
   pub piece : f.piece < length g.pieces
   pub inside : f.offset + width f.kind ≤ (piece_at g f.piece).size
   pub target : IsSimpleTarget g f.target
-
--- two fields of one piece share no byte
-abbrev pub StandApart : Field → Field → Type 0
-StandApart f h = f.piece ≡ h.piece → (f.offset + width f.kind ≤ h.offset) ⊎ (h.offset + width h.kind ≤ f.offset)
 
 -- The graph of such a kit, as far as it is written.
 pub record IsWritable (inputs : List Input) (g : Graph) : Type 0 where

@@ -2,7 +2,7 @@
 ghost use Rattle.std.specs.Prelude.{◌≡◌, ◌==◌, ◌&&◌, not, find, length};
 ghost use Rattle.std.specs.Option.{option_copied, option_map};
 ghost use Rattle.std.specs.Str.{bytes_eq};
-ghost use Rattle.kl_model.specs.Areas.{class_number, map_name, named_area, same_class};
+ghost use Rattle.kl_model.specs.Areas.{class_number, is_made, may_have_edge, map_name, named_area, same_class, typed_area};
 
 use kl_base::Class;
 use kl_elf::abi::{SHT_FINI_ARRAY, SHT_INIT_ARRAY, SHT_NULL};
@@ -144,6 +144,41 @@ fn named_row<'a>(rows: &'a [AreaForm], class: Class, name: &[u8]) -> Option<&'a 
             && !row.section.is_empty()
             && name == row.section
     })
+}
+
+/// The number of the area in which the sections of a class and a type (`SHT_*`) stand; `None` where the type gives none.
+pub fn typed_area(class: Class, kind: u32) -> Option<u32>
+    ensures { result ≡ typed_area class kind }
+{
+    match typed_row(&AREAS, class, kind) {
+        Some(row) => Some(row.number),
+        None => None,
+    }
+}
+
+/// The row of a class and a section type.
+fn typed_row(rows: &[AreaForm], class: Class, kind: u32) -> Option<&AreaForm>
+    ensures { option_copied result ≡ find (λ row. same_class row.class class && (not (row.section_type == SHT_NULL) && (row.section_type == kind))) rows.now }
+{
+    rows.iter().find(|row| {
+        class_number(row.class) == class_number(class)
+            && row.section_type != SHT_NULL
+            && row.section_type == kind
+    })
+}
+
+/// Whether an `edge` line may name the area of a number.
+pub fn may_have_edge(number: usize) -> bool
+    ensures { result ≡ may_have_edge number }
+{
+    AREAS.get(number).is_some_and(|area| area.edge)
+}
+
+/// Whether the linker makes the bytes of the area of a number.
+pub fn is_made(number: usize) -> bool
+    ensures { result ≡ is_made number }
+{
+    AREAS.get(number).is_some_and(|area| area.made)
 }
 
 /// The number of a class, which is that of the area of its ordinary pieces.

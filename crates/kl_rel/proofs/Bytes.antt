@@ -1,5 +1,5 @@
 -- Sets of bytes, and the bytes of fields.
-use Rattle.std.proofs.Common.{ℕ, zero, suc, ◌≡◌, ◌+◌, ◌≤◌, ◌∙◌, Bool, true, false, cond, not, ◌&&◌, ◌||◌, List, [], ◌∷◌, ◌++◌, refl, ap, arith, eqb-true, le-ltb}
+use Rattle.std.proofs.Common.{ℕ, zero, suc, ◌≡◌, ◌+◌, ◌≤◌, ◌<◌, ◌∙◌, Bool, true, false, cond, not, ◌&&◌, ◌||◌, List, [], ◌∷◌, ◌++◌, get_or, refl, ap, arith, eqb-true, le-ltb}
 use Rattle.std.specs.Prelude.{◌==◌, nat_le, nat_lt, slice_index}
 use Rattle.std.specs.Ordering.{is_eq}
 use Rattle.std.specs.List.{list_any, range_with_len, All}
@@ -71,3 +71,7 @@ shares_none fields ends f all h = go f.offset (width f.kind) h
     go : (a n : ℕ) → slice_index ends f.section ≤ a → list_any (is_taken fields f.section) (range_with_len a n) ≡ false
     go a zero h = refl
     go a (suc n) h = rw (free_past fields ends f.section a all h) (go (a + 1) n (omega arith))
+
+-- each item is a byte; so is what a list has behind its end
+abbrev pub AreBytes : List ℕ → Type 0
+AreBytes b = (k : ℕ) → get_or b k 0 < 256

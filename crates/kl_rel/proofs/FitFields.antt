@@ -7,7 +7,8 @@ use Rattle.std.proofs.lemmas.List.Elements.{All-append}
 use Rattle.std.proofs.lemmas.List.Folds.{list_any_at}
 use Rattle.std.proofs.lemmas.List.FromFn.{length-range_with_len, get_or-range_with_len}
 use Rattle.std.proofs.lemmas.List.Quantifiers.{all_pairs_push}
-use Rattle.kl_le.specs.Bytes.{Within}
+use Rattle.std.specs.Int.{w64}
+use Rattle.kl_le.specs.Bytes.{Within, num}
 use Rattle.kl_model.specs.Kept.{no_section}
 use Rattle.kl_model.specs.Relocations.{width}
 use Rattle.kl_model.specs.Fit.{IsSectionNumber, IsFitField, ShareNoByte, ComesBefore, section_in}
@@ -19,6 +20,9 @@ use Rattle.kl_rel.specs.SymbolTables.{symbol_count}
 use Rattle.kl_rel.specs.Relocations.{is_read, rela_checks, rela_flaw_of, relocations_flaw, entries_flaw, entry_checks, entry_flaw_of, entry_place, field_of, fields_of, fields_before, fields_in, is_byte_of, is_taken, shares_byte}
 use Rattle.kl_rel.specs.Objects.{object}
 use Rattle.kl_rel.specs.declared.fault.ReadKind.TheVariants.{RelaLink, RelaPlace, FieldOverlap}
+use Rattle.std.proofs.Math.Facts.{Fits-below, sfits_to_z}
+use Rattle.kl_le.proofs.Num.{bounds}
+use Rattle.kl_rel.proofs.Bytes.{AreBytes}
 use Rattle.kl_rel.proofs.Places.{none_in, none_at, none_first, none_rest, not_stands, section_where, IsNumber}
 use Rattle.kl_rel.proofs.Entries.{before-start, before-read, before-passed, before-all, before-more, target_allocated}
 use Rattle.kl_rel.proofs.Symbols.{made-at, sections-length, symbols-length}
@@ -63,16 +67,20 @@ entry_passes b n k e low high is h =
     none_at (entry_flaw_of b n) 0 ((section b n).size / rela.SIZE) k (none_first (entries_flaw b n) None entries) (omega arith) (omega arith)
 
 -- a field of a file without a flaw
-pub field_is_fit : (b : List ℕ) (n k : ℕ) → relocations_flaw b ≡ None → 1 ≤ n → n < (head b).shnum → is_read b (section b n) ≡ true → k < (section b n).size / rela.SIZE → IsFitField (object b) (field_of b n k)
+pub field_is_fit : (b : List ℕ) (n k : ℕ) → AreBytes b → relocations_flaw b ≡ None → 1 ≤ n → n < (head b).shnum → is_read b (section b n) ≡ true → k < (section b n).size / rela.SIZE → IsFitField (object b) (field_of b n k)
 unfolding entry_checks rela_checks object listed_section
-field_is_fit b n k e low high is h = record {
+field_is_fit b n k small e low high is h = record {
   rela = number_of b n low high;
   section = number_of b (section b n).info target.low target.high;
   symbol = rw (symbols-length b) symbol;
   bytes = rw (section_at b (section b n).info target.low target.high) bytes;
   inside = rw (section_at b (section b n).info target.low target.high) inside;
+  addend = sfits_to_z (Fits-below {w = w64} {n = 0xffffffffffffffff} tt word);
 }
   where
+    word : num b (entry_place b n k + 16) 8 ≤ 0xffffffffffffffff
+    word = let l = bounds b (entry_place b n k + 16) 8 small in omega (arith, l)
+
     target : IsNumber b (section b n).info
     target = section_where b (section b n).info is_allocated refl (target_allocated b n is)
 
@@ -102,15 +110,15 @@ field_is_fit b n k e low high is h = record {
         (none_in (rela_checks b (header_place b n) (section b n)) 2 form) in
         eqb-false (section b (section b n).info).kind 8 (second (is_read b (section b n)) ((section b (section b n).info).kind == 8) is none)
 
-pub fields_are_fit : (b : List ℕ) → relocations_flaw b ≡ None → All (IsFitField (object b)) (fields_in b)
+pub fields_are_fit : (b : List ℕ) → AreBytes b → relocations_flaw b ≡ None → All (IsFitField (object b)) (fields_in b)
 unfolding fields_in fields_of
-fields_are_fit b e = all_over (IsFitField (object b)) (fields_of b) 1 ((head b).shnum - 1) (λ i h. of_section (1 + i) (omega arith) (omega arith) (is_read b (section b (1 + i))) refl)
+fields_are_fit b small e = all_over (IsFitField (object b)) (fields_of b) 1 ((head b).shnum - 1) (λ i h. of_section (1 + i) (omega arith) (omega arith) (is_read b (section b (1 + i))) refl)
   where
     of_section : (n : ℕ) → 1 ≤ n → n < (head b).shnum → (x : Bool) → is_read b (section b n) ≡ x
         → All (IsFitField (object b)) (cond x (map (field_of b n) (range_with_len 0 ((section b n).size / rela.SIZE))) [])
     of_section n low high true is = all_made (IsFitField (object b)) (field_of b n) 0 ((section b n).size / rela.SIZE) (λ k h.
         let same : 0 + k ≡ k = omega arith in
-        rw same (field_is_fit b n k e low high is h))
+        rw same (field_is_fit b n k small e low high is h))
     of_section n low high false is = λ k d h. absurd (omega arith)
 
 -- two fields share no byte, where one shares none with those before it

@@ -16,6 +16,9 @@ use Rattle.kl_rel.specs.Sections.{no_name, is_alignment, is_too_large, sections_
 use Rattle.kl_rel.specs.SymbolTables.{symbol_table, symbol_count, symbol_place, strings, symbol_in, symbol_of, symbol_table_checks, symbol_form_checks, symbol_place_checks, symbols_flaw, symbols_in, has_section, is_reserved, is_in_section, is_common, is_undefined, is_local, is_unnamed, is_empty, binding}
 use Rattle.kl_rel.specs.declared.fault.Feature.TheVariants.{Binding}
 use Rattle.kl_rel.specs.declared.fault.ReadKind.TheVariants.{Unsupported, NameRange, Align, SymbolSection}
+use Rattle.kl_le.proofs.Num.{bounds}
+use Rattle.kl_elf.specs.declared.records.TheConstants.Sym as sym
+use Rattle.kl_rel.proofs.Bytes.{AreBytes}
 use Rattle.kl_rel.proofs.Places.{none_in, not_stands, not_false}
 use Rattle.kl_rel.proofs.Tables.{strings_lie}
 use Rattle.kl_rel.proofs.Symbols.{symbol-at, symbols-length, sections-length, form_passes, place_passes}
@@ -78,10 +81,10 @@ places count shnum y ec some has = go (is_reserved y.shndx) refl (y.shndx == 0xf
     go false er a ea c ecm false ew e = cc
 
 -- a symbol of a file without a flaw
-pub symbol_is_fit : (b : List ℕ) (count k : ℕ) → count ≡ (head b).shnum - 1 → 0 < (head b).shnum → ranges_flaw b ≡ None → first_of (symbol_table_checks b) ≡ None → symbols_flaw b ≡ None
+pub symbol_is_fit : (b : List ℕ) (count k : ℕ) → AreBytes b → count ≡ (head b).shnum - 1 → 0 < (head b).shnum → ranges_flaw b ≡ None → first_of (symbol_table_checks b) ≡ None → symbols_flaw b ≡ None
     → 1 ≤ k → k < symbol_count b → IsFitSymbol b count (symbol_of b k)
 unfolding symbol_in
-symbol_is_fit b count k ec some ranges form e low high = record {
+symbol_is_fit b count k small ec some ranges form e low high = record {
   name = named (string_in b (strings b) y.name) refl formed.named;
   binding = formed.bound;
   kind = omega arith;
@@ -90,6 +93,7 @@ symbol_is_fit b count k ec some ranges form e low high = record {
   value = λ above below. ltb-false SIZE_LIMIT y.value (second (is_in_section y.shndx) (is_too_large y.value) (in_section above below) placed.value);
   align = λ common. aligned common;
   size = λ common. ltb-false SIZE_LIMIT y.size (second (is_common y) (is_too_large y.size) (eq-eqb y.shndx SHN_COMMON common) placed.size);
+  words = (bounds b (symbol_place b k + sym.ST_VALUE) 8 small, bounds b (symbol_place b k + sym.ST_SIZE) 8 small);
 }
   where
     y : Sym
@@ -124,17 +128,18 @@ null_is_fit b count = record {
   value = λ above below. omega arith;
   align = λ common. inl refl;
   size = λ common. omega arith;
+  words = (omega arith, omega arith);
 }
 
-pub all_fit : (b : List ℕ) (count : ℕ) → count ≡ (head b).shnum - 1 → 0 < (head b).shnum → ranges_flaw b ≡ None → first_of (symbol_table_checks b) ≡ None → symbols_flaw b ≡ None
+pub all_fit : (b : List ℕ) (count : ℕ) → AreBytes b → count ≡ (head b).shnum - 1 → 0 < (head b).shnum → ranges_flaw b ≡ None → first_of (symbol_table_checks b) ≡ None → symbols_flaw b ≡ None
     → All (IsFitSymbol b count) (symbols_in b)
 unfolding symbols_in
-all_fit b count ec some ranges form e = go (symbol_count b == 0)
+all_fit b count small ec some ranges form e = go (symbol_count b == 0)
   where
     go : (x : Bool) → All (IsFitSymbol b count) (cond x [] (no_symbol ∷ map (symbol_of b) (range_with_len 1 (symbol_count b - 1))))
     go true = λ k d h. absurd (omega arith)
     go false = All-cons (IsFitSymbol b count) no_symbol (map (symbol_of b) (range_with_len 1 (symbol_count b - 1))) (null_is_fit b count)
-        (all_made (IsFitSymbol b count) (symbol_of b) 1 (symbol_count b - 1) (λ i h. symbol_is_fit b count (1 + i) ec some ranges form e (omega arith) (omega arith)))
+        (all_made (IsFitSymbol b count) (symbol_of b) 1 (symbol_count b - 1) (λ i h. symbol_is_fit b count (1 + i) small ec some ranges form e (omega arith) (omega arith)))
 
 -- a LOCAL symbol but number 0 is neither undefined nor common
 others : (b : List ℕ) (k : ℕ) (d : Symbol) → symbols_flaw b ≡ None → 1 ≤ k → k < length (symbols_in b) → (get_or (symbols_in b) k d).binding ≡ 0
@@ -167,10 +172,10 @@ first_is_null b = go (symbol_count b == 0)
     go false zero d h = (refl, refl)
     go false (suc k) d h = absurd (omega arith)
 
-pub symbols_are_fit : (b : List ℕ) → 0 < (head b).shnum → ranges_flaw b ≡ None → first_of (symbol_table_checks b) ≡ None → symbols_flaw b ≡ None
+pub symbols_are_fit : (b : List ℕ) → AreBytes b → 0 < (head b).shnum → ranges_flaw b ≡ None → first_of (symbol_table_checks b) ≡ None → symbols_flaw b ≡ None
     → AreFitSymbols b (length (sections_in b)) (symbols_in b)
-symbols_are_fit b some ranges form e = record {
-  each_symbol = all_fit b (length (sections_in b)) (sections-length b) some ranges form e;
+symbols_are_fit b small some ranges form e = record {
+  each_symbol = all_fit b (length (sections_in b)) small (sections-length b) some ranges form e;
   first = first_is_null b;
   others = λ k d low high. others b k d e low high;
 }

@@ -16,6 +16,7 @@ use Rattle.kl_rel.specs.SectionGroups.{word, word_place, members, members_before
 use Rattle.kl_rel.specs.Objects.{object, flaw}
 use Rattle.kl_rel.specs.declared.fault.ReadFault.{ReadFault}
 use Rattle.kl_rel.specs.declared.fault.ReadKind.TheVariants.{SectionTable, GroupForm}
+use Rattle.kl_rel.proofs.Bytes.{AreBytes}
 use Rattle.kl_rel.proofs.Places.{none_in, none_at, not_stands}
 use Rattle.kl_rel.proofs.Symbols.{symbols-length, sections-length, symbol_fits}
 use Rattle.kl_rel.proofs.Grouping.{form_of}
@@ -23,8 +24,9 @@ use Rattle.kl_rel.proofs.FitSections.{all_made, sections_are_fit}
 use Rattle.kl_rel.proofs.FitSymbols.{symbols_are_fit, all_fit}
 use Rattle.kl_rel.proofs.FitFields.{all_over, number_of, fields_are_fit, fields_are_apart, fields_ascend}
 
--- that no part of a file has a flaw
+-- that a file's bytes are bytes, and no part of it has a flaw
 pub record IsSound (b : List ℕ) : Type 0 where
+  pub small : AreBytes b
   pub table : first_of (table_checks b) ≡ None
   pub ranges : ranges_flaw b ≡ None
   pub sections : sections_flaw b ≡ None
@@ -34,9 +36,10 @@ pub record IsSound (b : List ℕ) : Type 0 where
   pub groups : groups_flaw b ≡ None
   pub some : 0 < (head b).shnum
 
-pub is_sound : (b : List ℕ) → flaw b ≡ None → IsSound b
+pub is_sound : (b : List ℕ) → AreBytes b → flaw b ≡ None → IsSound b
 unfolding flaw table_checks
-is_sound b e = record {
+is_sound b small e = record {
+  small = small;
   table = none_in (parts b) 1 e;
   ranges = none_in (parts b) 2 e;
   sections = none_in (parts b) 3 e;
@@ -66,7 +69,7 @@ signature_is_name b k s low high = go ((get_or (symbols_in b) k no_symbol).kind 
   where
     named : IsName b (get_or (symbols_in b) k no_symbol).name
     named =
-        let all = all_fit b (length (sections_in b)) (sections-length b) s.some s.ranges s.form s.symbols in
+        let all = all_fit b (length (sections_in b)) s.small (sections-length b) s.some s.ranges s.form s.symbols in
         (all k no_symbol (rw symbols-length high)).name
 
     go : (x y : Bool) → is_in_section (get_or (symbols_in b) k no_symbol).section ≡ y
@@ -132,14 +135,14 @@ groups_are_fit b s = all_over (IsFitGroup b (object b)) (groups_at b) 1 ((head b
     of_section n low high false is = λ k d h. absurd (omega arith)
 
 -- an input of these bytes whose object is the one that stands in them
-pub object_is_fit : (b : List ℕ) → flaw b ≡ None → (x : Input) → x.bytes ≡ b → x.object ≡ object b → IsFit x
+pub object_is_fit : (b : List ℕ) → AreBytes b → flaw b ≡ None → (x : Input) → x.bytes ≡ b → x.object ≡ object b → IsFit x
 unfolding object
-object_is_fit b e x eb eo =
-    let s = is_sound b e in
+object_is_fit b small e x eb eo =
+    let s = is_sound b small e in
     record {
       sections = rw (eb, eo) (sections_are_fit b s.table s.ranges s.sections);
-      symbols = rw (eb, eo) (symbols_are_fit b s.some s.ranges s.form s.symbols);
-      fields = rw eo (fields_are_fit b s.fields);
+      symbols = rw (eb, eo) (symbols_are_fit b s.small s.some s.ranges s.form s.symbols);
+      fields = rw eo (fields_are_fit b s.small s.fields);
       apart = rw eo (fields_are_apart b s.some s.fields);
       ascending = rw eo (fields_ascend b s.some);
       groups = rw (eb, eo) (groups_are_fit b s);

@@ -1,5 +1,5 @@
 -- Flaws, and the first of several.
-use Rattle.std.specs.Prelude.{ℕ, ◌≡◌, Bool, cond, List, [], ◌∷◌, Option, Some, None}
+use Rattle.std.specs.Prelude.{ℕ, ◌≡◌, Bool, cond, if◌then◌else◌, List, [], ◌∷◌, Option, Some, None}
 use Rattle.std.specs.Option.{option_or}
 use Rattle.kl_rel.specs.declared.fault.ReadKind.{ReadKind}
 use Rattle.kl_rel.specs.declared.fault.ReadFault.{ReadFault}
@@ -8,7 +8,7 @@ use Rattle.kl_rel.specs.declared.fault.ReadError.TheVariants.{Flaw, NoMemory}
 
 -- a flaw of this kind at this place of the file, where the condition holds
 abbrev pub flaw_if : Bool → ReadKind → ℕ → Option ReadFault
-flaw_if stands kind at = cond stands (Some (record { kind = kind; at = at })) None
+flaw_if stands kind at = if stands then Some (record { kind = kind; at = at }) else None
 
 -- the first flaw that stands
 abbrev pub first_of : List (Option ReadFault) → Option ReadFault

@@ -1,5 +1,5 @@
 -- The section headers of an object (gABI, "Sections").
-use Rattle.std.specs.Prelude.{ℕ, ◌+◌, ◌-◌, ◌*◌, ◌≤◌, ◌<◌, ◌≡◌, Bool, cond, not, ◌&&◌, ◌||◌, ◌==◌, nat_le, nat_lt, List, [], ◌∷◌, length, map, Option, slice_range, position}
+use Rattle.std.specs.Prelude.{ℕ, ◌+◌, ◌-◌, ◌*◌, ◌≤◌, ◌<◌, ◌≡◌, Bool, cond, if◌then◌else◌, not, ◌&&◌, ◌||◌, ◌==◌, nat_le, nat_lt, List, [], ◌∷◌, length, map, Option, slice_range, position}
 use Rattle.std.specs.Option.{option_map}
 use Rattle.std.specs.List.{range_with_len}
 use Rattle.kl_base.specs.declared.class.Range.{Range}
@@ -30,7 +30,7 @@ header_place b n = (head b).shoff + shdr.SIZE * n
 -- the header of section n; number 0 is of type SHT_NULL and without flags, whatever its header holds, and so is a number that no
 -- section has
 unfoldable pub section : List ℕ → ℕ → Shdr
-section b n = cond ((n == 0) || nat_le (head b).shnum n) null_header (shdr_at b (header_place b n))
+section b n = if (n == 0) || nat_le (head b).shnum n then null_header else shdr_at b (header_place b n)
 
 -- the numbers of the sections, from 1 on
 abbrev pub numbers : List ℕ → List ℕ

@@ -1,5 +1,5 @@
 -- The relocation entries of an object (gABI, "Relocation").
-use Rattle.std.specs.Prelude.{ℕ, ◌+◌, ◌-◌, ◌*◌, ◌/◌, ◌%◌, ◌^◌, Bool, cond, not, ◌&&◌, ◌||◌, ◌==◌, nat_lt, nat_le, List, [], ◌∷◌, ◌++◌, map, flat_map, Option, None}
+use Rattle.std.specs.Prelude.{ℕ, ◌+◌, ◌-◌, ◌*◌, ◌/◌, ◌%◌, ◌^◌, Bool, cond, if◌then◌else◌, not, ◌&&◌, ◌||◌, ◌==◌, nat_lt, nat_le, List, [], ◌∷◌, ◌++◌, map, flat_map, Option, None}
 use Rattle.std.specs.List.{list_any, range_with_len}
 use Rattle.kl_elf.specs.Records.{rela_at}
 use Rattle.kl_elf.specs.declared.records.Shdr.{Shdr}
@@ -57,7 +57,7 @@ field_of b n k = listed_field n k (section b n).info (rela_at b (entry_place b n
 
 -- the fields of section n, and those of all entries before entry k of it
 unfoldable pub fields_of : List ℕ → ℕ → List RawField
-fields_of b n = cond (is_read b (section b n)) (map (field_of b n) (range_with_len 0 ((section b n).size / rela.SIZE))) []
+fields_of b n = if is_read b (section b n) then map (field_of b n) (range_with_len 0 ((section b n).size / rela.SIZE)) else []
 
 unfoldable pub fields_before : List ℕ → ℕ → ℕ → List RawField
 fields_before b n k = flat_map (fields_of b) (range_with_len 1 (n - 1)) ++ map (field_of b n) (range_with_len 0 k)
@@ -89,7 +89,7 @@ unfoldable pub entries_flaw : List ℕ → ℕ → Option ReadFault
 entries_flaw b n = first_of (map (entry_flaw_of b n) (range_with_len 0 ((section b n).size / rela.SIZE)))
 
 abbrev pub rela_flaw_of : List ℕ → ℕ → Option ReadFault
-rela_flaw_of b n = first_of (first_of (rela_checks b (header_place b n) (section b n)) ∷ cond (is_read b (section b n)) (entries_flaw b n) None ∷ [])
+rela_flaw_of b n = first_of (first_of (rela_checks b (header_place b n) (section b n)) ∷ (if is_read b (section b n) then entries_flaw b n else None) ∷ [])
 
 unfoldable pub relocations_flaw : List ℕ → Option ReadFault
 relocations_flaw b = first_of (map (rela_flaw_of b) (numbers b))

@@ -1,5 +1,5 @@
 -- The section groups of an object (gABI, "Section Groups").
-use Rattle.std.specs.Prelude.{ℕ, ◌+◌, ◌-◌, ◌*◌, ◌/◌, ◌%◌, Bool, cond, not, ◌&&◌, ◌||◌, ◌==◌, nat_lt, nat_le, List, [], ◌∷◌, ◌++◌, map, flat_map, Option, None, slice_index_or}
+use Rattle.std.specs.Prelude.{ℕ, ◌+◌, ◌-◌, ◌*◌, ◌/◌, ◌%◌, Bool, cond, if◌then◌else◌, not, ◌&&◌, ◌||◌, ◌==◌, nat_lt, nat_le, List, [], ◌∷◌, ◌++◌, map, flat_map, Option, None, slice_index_or}
 use Rattle.std.specs.List.{range_with_len}
 use Rattle.kl_base.specs.declared.class.Range.{Range}
 use Rattle.kl_le.specs.Bytes.{num}
@@ -37,7 +37,7 @@ members b s = map (word b s) (member_places s)
 
 -- the members of all groups before section n, and those of group n before its word j
 unfoldable pub members_of : List ℕ → ℕ → List ℕ
-members_of b n = cond (is_group (section b n)) (members b (section b n)) []
+members_of b n = if is_group (section b n) then members b (section b n) else []
 
 unfoldable pub members_before : List ℕ → ℕ → ℕ → List ℕ
 members_before b n j = flat_map (members_of b) (range_with_len 1 (n - 1)) ++ map (word b (section b n)) (range_with_len 1 (j - 1))
@@ -67,7 +67,7 @@ unfoldable pub group_checks : List ℕ → ℕ → List (Option ReadFault)
 group_checks b n = first_of (group_form_checks b (header_place b n) (section b n)) ∷ members_flaw b n ∷ []
 
 abbrev pub group_flaw_of : List ℕ → ℕ → Option ReadFault
-group_flaw_of b n = cond (is_group (section b n)) (first_of (group_checks b n)) None
+group_flaw_of b n = if is_group (section b n) then first_of (group_checks b n) else None
 
 unfoldable pub groups_flaw : List ℕ → Option ReadFault
 groups_flaw b = first_of (map (group_flaw_of b) (numbers b))
@@ -75,7 +75,7 @@ groups_flaw b = first_of (map (group_flaw_of b) (numbers b))
 -- the name of a group's signature: that of a symbol, or of its section where it is one of STT_SECTION that stands in a section
 abbrev pub signature : List Section → Symbol → Range
 signature sections y =
-    cond ((y.kind == STT_SECTION) && is_in_section y.section) (slice_index_or sections (y.section - 1) no_section).name y.name
+    if (y.kind == STT_SECTION) && is_in_section y.section then (slice_index_or sections (y.section - 1) no_section).name else y.name
 
 unfoldable pub group_of : List ℕ → ℕ → Group
 group_of b n = record {
@@ -87,7 +87,7 @@ group_of b n = record {
 
 -- the groups of an object, by section
 unfoldable pub groups_at : List ℕ → ℕ → List Group
-groups_at b n = cond (is_group (section b n)) (group_of b n ∷ []) []
+groups_at b n = if is_group (section b n) then group_of b n ∷ [] else []
 
 unfoldable pub groups_in : List ℕ → List Group
 groups_in b = flat_map (groups_at b) (numbers b)

@@ -1,5 +1,5 @@
 -- The sections of an object (gABI, "Section Attribute Flags" and "Section Types").
-use Rattle.std.specs.Prelude.{ℕ, ◌+◌, ◌^◌, Bool, cond, not, ◌&&◌, ◌||◌, ◌==◌, nat_lt, nat_le, List, [], ◌∷◌, map, codes, Option, Some, None, unwrap_or, is_none}
+use Rattle.std.specs.Prelude.{ℕ, ◌+◌, ◌^◌, Bool, cond, if◌then◌else◌, not, ◌&&◌, ◌||◌, ◌==◌, nat_lt, nat_le, List, [], ◌∷◌, map, codes, Option, Some, None, unwrap_or, is_none}
 use Rattle.std.specs.Int.{is_power_of_two}
 use Rattle.std.specs.List.{starts_with}
 use Rattle.kl_base.specs.declared.class.Range.{Range}
@@ -21,7 +21,7 @@ no_name = record { at = 0; len = 0 }
 
 -- the name of a section in the string table of section names; one of SHT_NULL has none
 abbrev pub section_name : List ℕ → Shdr → Shdr → Option Range
-section_name b table s = cond (s.kind == SHT_NULL) (Some no_name) (string_in b table s.name)
+section_name b table s = if s.kind == SHT_NULL then Some no_name else string_in b table s.name
 
 -- SHF_ALLOC: the section is in memory when a program runs
 abbrev pub is_allocated : Shdr → Bool
@@ -67,8 +67,8 @@ form_checks b place name s =
 unfoldable pub section_checks : List ℕ → Shdr → ℕ → Shdr → List (Option ReadFault)
 section_checks b table place s =
     flaw_if (is_none (section_name b table s)) NameRange place
-    ∷ cond (is_allocated s) (first_of (flags_checks place s)) None
-    ∷ cond (is_allocated s) (first_of (form_checks b place (unwrap_or (section_name b table s) no_name) s)) None ∷ []
+    ∷ (if is_allocated s then first_of (flags_checks place s) else None)
+    ∷ (if is_allocated s then first_of (form_checks b place (unwrap_or (section_name b table s) no_name) s) else None) ∷ []
 
 -- as it is listed
 unfoldable pub listed_section : List ℕ → Shdr → Shdr → Section

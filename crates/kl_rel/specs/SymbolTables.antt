@@ -1,5 +1,5 @@
 -- The symbol table of an object (gABI, "Symbol Table").
-use Rattle.std.specs.Prelude.{ℕ, ◌+◌, ◌-◌, ◌*◌, ◌/◌, ◌%◌, ◌≤◌, ◌≡◌, Bool, true, cond, not, ◌&&◌, ◌||◌, ◌==◌, nat_lt, nat_le, List, [], ◌∷◌, map, filter, length, Option, Some, None, unwrap_or, is_none, slice_get}
+use Rattle.std.specs.Prelude.{ℕ, ◌+◌, ◌-◌, ◌*◌, ◌/◌, ◌%◌, ◌≤◌, ◌≡◌, Bool, true, cond, if◌then◌else◌, not, ◌&&◌, ◌||◌, ◌==◌, nat_lt, nat_le, List, [], ◌∷◌, map, filter, length, Option, Some, None, unwrap_or, is_none, slice_get}
 use Rattle.std.specs.Option.{option_map}
 use Rattle.std.specs.List.{range_with_len}
 use Rattle.kl_base.specs.declared.class.Range.{Range}
@@ -53,7 +53,7 @@ table_form_checks b place s =
 unfoldable pub symbol_table_checks : List ℕ → List (Option ReadFault)
 symbol_table_checks b =
     second_table_flaw b
-    ∷ cond (table_number b == 0) None (first_of (table_form_checks b (header_place b (table_number b)) (symbol_table b))) ∷ []
+    ∷ (if table_number b == 0 then None else first_of (table_form_checks b (header_place b (table_number b)) (symbol_table b))) ∷ []
 
 -- the place of symbol k
 abbrev pub symbol_place : List ℕ → ℕ → ℕ
@@ -84,7 +84,7 @@ is_reserved n = nat_le SHN_LORESERVE n
 
 -- the number of a section of a file with so many, or of none, or a reserved one that is known
 abbrev pub has_section : ℕ → Sym → Bool
-has_section count y = cond (is_reserved y.shndx) ((y.shndx == SHN_ABS) || is_common y) (nat_lt y.shndx count)
+has_section count y = if is_reserved y.shndx then (y.shndx == SHN_ABS) || is_common y else nat_lt y.shndx count
 
 -- the number of a section, of those that a symbol can name
 abbrev pub is_in_section : ℕ → Bool
@@ -102,7 +102,7 @@ is_unnamed name y = is_none name || (not (is_local y) && is_empty name)
 unfoldable pub symbol_form_checks : Option Range → Bool → ℕ → Sym → List (Option ReadFault)
 symbol_form_checks name first place y =
     flaw_if (is_unnamed name y) NameRange place
-    ∷ flaw_if (cond first (not (is_local y)) (is_local y)) SymbolTable (place + sym.ST_INFO)
+    ∷ flaw_if (if first then not (is_local y) else is_local y) SymbolTable (place + sym.ST_INFO)
     ∷ flaw_if (nat_lt STB_WEAK (binding y)) (Unsupported Binding) (place + sym.ST_INFO)
     ∷ flaw_if (kind y == STT_TLS) (Unsupported Tls) (place + sym.ST_INFO)
     ∷ flaw_if (kind y == STT_GNU_IFUNC) (Unsupported Ifunc) (place + sym.ST_INFO)
@@ -155,7 +155,7 @@ symbols_flaw b = first_of (map (symbol_flaw_of b) (symbol_numbers b))
 
 -- the symbols of an object, from number 0 on, which is all zero, whatever its bytes are
 unfoldable pub symbols_in : List ℕ → List Symbol
-symbols_in b = cond (symbol_count b == 0) [] (no_symbol ∷ map (symbol_of b) (symbol_numbers b))
+symbols_in b = if symbol_count b == 0 then [] else no_symbol ∷ map (symbol_of b) (symbol_numbers b)
 
 -- the table that a reader holds
 pub record IsSymbolTable (b : List ℕ) (t : Table) : Type 0 where

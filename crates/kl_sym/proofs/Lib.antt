@@ -7,5 +7,9 @@ pub mod IndexSteps
 pub mod SimpleNames
 pub mod FieldTargets
 pub mod ResolveFaults
-pub mod SoundGraph
+pub mod KeptPieces
+pub mod PieceAreas
+pub mod SoundTargets
+pub mod SoundPieces
 pub mod SoundFields
+pub mod SimpleGraphs

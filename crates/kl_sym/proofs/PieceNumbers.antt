@@ -83,7 +83,7 @@ module _ (kit : Kit) (inputs : List Input) where
   same_length : (k : ℕ) (x : Input) (s : ℕ) (y : Section) → length (kept_of k s y) ≡ length (section_piece kit inputs k x s y)
   same_length k x s y = let pair : ℕ × ℕ = (k, s) in length-only_if (is_kept kit inputs k s) pair (piece_of kit k x s y)
 
-  kept-pieces : (n : ℕ) (xs : List Input) → length (each_from n kept_in xs) ≡ length (each_from n (input_pieces kit inputs) xs)
+  pub kept-pieces : (n : ℕ) (xs : List Input) → length (each_from n kept_in xs) ≡ length (each_from n (input_pieces kit inputs) xs)
   kept-pieces n xs = each-length n kept_in (input_pieces kit inputs) xs
       (λ k x. each-length 1 (kept_of k) (section_piece kit inputs k x) x.object.sections (λ s y. same_length k x s y))
 

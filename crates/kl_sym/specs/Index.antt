@@ -1,5 +1,5 @@
 -- Where names are defined: what a map from names to definitions stands for. For the contracts inside this crate alone.
-use Rattle.std.specs.Prelude.{ℕ, ◌≡◌, cond, not, ◌==◌, List, Option, Some, None, filter, find, reverse, take, slice_index_or}
+use Rattle.std.specs.Prelude.{ℕ, ◌≡◌, if◌then◌else◌, not, ◌==◌, List, Option, Some, None, filter, find, reverse, take, slice_index_or}
 use Rattle.std.specs.Str.{bytes_eq}
 use Rattle.std.specs.Option.{option_map}
 use Rattle.std.specs.Ordering.{nat_cmp}
@@ -29,7 +29,7 @@ found q m = tree.get_by (λ k. slice_cmp nat_cmp q k.now) m
 
 -- where a symbol leads that is absolute (gABI, SHN_ABS) or in a section that has a piece
 abbrev pub symbol_place : List (Option ℕ) → Symbol → Option Target
-symbol_place table y = cond (y.section == SHN_ABS) (Some (Abs y.value)) (option_map (λ n. Place n y.value) (slice_index_or table y.section None))
+symbol_place table y = if y.section == SHN_ABS then Some (Abs y.value) else option_map (λ n. Place n y.value) (slice_index_or table y.section None)
 
 -- a symbol that isn't LOCAL
 abbrev pub occurrence : ℕ → Input → ℕ → Symbol → Occurrence

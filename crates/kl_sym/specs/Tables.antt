@@ -1,5 +1,5 @@
 -- The pieces of sections, by section number. For the contracts inside this crate alone.
-use Rattle.std.specs.Prelude.{ℕ, ◌≡◌, cond, List, [], ◌∷◌, Option, Some, None}
+use Rattle.std.specs.Prelude.{ℕ, ◌≡◌, if◌then◌else◌, List, [], ◌∷◌, Option, Some, None}
 use Rattle.kl_model.specs.Lists.{each, each_from}
 use Rattle.kl_model.specs.Texts.{text_at}
 use Rattle.kl_model.specs.Kept.{is_kept, input_at, area_of, class_of}
@@ -11,7 +11,7 @@ use Rattle.kl_model.specs.declared.kit.Kit.{Kit}
 
 -- the number of the piece of section s of input i, where it is kept
 abbrev pub piece_entry : Kit → List Input → ℕ → ℕ → Option ℕ
-piece_entry kit inputs i s = cond (is_kept kit inputs i s) (Some (piece_number kit inputs i s)) None
+piece_entry kit inputs i s = if is_kept kit inputs i s then Some (piece_number kit inputs i s) else None
 
 -- those of all sections of an input, from section 0 on, which is never kept
 abbrev pub piece_table : Kit → List Input → ℕ → List (Option ℕ)

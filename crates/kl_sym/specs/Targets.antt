@@ -1,5 +1,5 @@
 -- Where a field leads, and its faults, by the table of its input and an index of names. For the contracts inside this crate alone.
-use Rattle.std.specs.Prelude.{ℕ, cond, not, ◌==◌, List, [], ◌++◌, slice_index_or, codes, Option, Some, None, Result, Ok, Err}
+use Rattle.std.specs.Prelude.{ℕ, if◌then◌else◌, not, ◌==◌, List, [], ◌++◌, slice_index_or, codes, Option, Some, None, Result, Ok, Err}
 use Rattle.std.specs.Result.{result_unwrap_or}
 use Rattle.std.specs.Str.{bytes_eq}
 use Rattle.std.specs.declared.collections.BTreeMap.{BTreeMap}
@@ -30,19 +30,19 @@ symbol_in x n = slice_index_or x.object.symbols n no_symbol
 -- a LOCAL symbol leads to its place; from `.eh_frame` it may lead nowhere
 abbrev pub local_by : Option Target → List ℕ → Result Target Missing
 local_by (Some t) name = Ok t
-local_by None name = cond (bytes_eq name (codes ".eh_frame")) (Ok Gone) (Err Removed)
+local_by None name = if bytes_eq name (codes ".eh_frame") then Ok Gone else Err Removed
 
 -- a name leads to its definition; an undefined WEAK one to 0
 abbrev pub global_by : Option Target → ℕ → Result Target Missing
-global_by t binding = target_or t (cond (binding == STB_WEAK) (Ok Zero) (Err Undefined))
+global_by t binding = target_or t (if binding == STB_WEAK then Ok Zero else Err Undefined)
 
 module _ (table : List (Option ℕ)) (m : BTreeMap (Bor (List ℕ)) Definition Global) (x : Input) where
   abbrev pub target_by : RawField → Result Target Missing
   target_by f =
       let y = symbol_in x f.symbol in
-      cond (f.symbol == 0) (Ok (Abs 0))
-      (cond (y.binding == STB_LOCAL) (local_by (symbol_place table y) (text_at x.bytes (section_in x.object f.section).name))
-      (global_by (target_in m (text_at x.bytes y.name)) y.binding))
+      if f.symbol == 0 then Ok (Abs 0)
+      else if y.binding == STB_LOCAL then local_by (symbol_place table y) (text_at x.bytes (section_in x.object f.section).name)
+      else global_by (target_in m (text_at x.bytes y.name)) y.binding
 
   -- the faults of a missing target
   abbrev pub missing_by : ℕ → RawField → List LinkFault
@@ -62,7 +62,7 @@ module _ (table : List (Option ℕ)) (m : BTreeMap (Bor (List ℕ)) Definition G
 
   abbrev pub faults_at : Option ℕ → ℕ → RawField → List LinkFault
   faults_at None i f = []
-  faults_at (Some n) i f = cond (f.kind == R_X86_64_NONE) [] (only_if (not (is_kind f.kind)) (fault.Kind (from_of i f) f.kind) ++ missing_by i f)
+  faults_at (Some n) i f = if f.kind == R_X86_64_NONE then [] else only_if (not (is_kind f.kind)) (fault.Kind (from_of i f) f.kind) ++ missing_by i f
 
   abbrev pub field_by : ℕ → RawField → List Field
   field_by i f = field_at (slice_index_or table f.section None) i f

@@ -26,9 +26,7 @@ fn section_name<'a>(input: &'a Input, number: u32) -> &'a [u8]
     requires within { number ≤ length input.now.object.sections }
     ensures { result.now ≡ text_at input.now.bytes (section_in input.now.object number).name }
 {
-    let section = &input.object.sections.items()[number as usize - 1];
-    let at = section.name.at as usize;
-    &input.bytes.items()[at..at + section.name.len as usize]
+    input.text(input.object.sections.items()[number as usize - 1].name)
 }
 
 /// Where a field of input `i` leads.

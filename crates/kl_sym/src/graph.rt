@@ -5,6 +5,7 @@ ghost use Rattle.kl_model.specs.Fit.{AreFit, IsKernelKit};
 ghost use Rattle.kl_model.specs.Graphs.{graph};
 ghost use Rattle.kl_model.specs.Names.{definition};
 ghost use Rattle.kl_model.specs.Simple.{is_simple};
+ghost use Rattle.kl_model.specs.Sound.{IsSoundGraph};
 ghost use Rattle.kl_model.specs.declared.object.Input.{Input};
 ghost use Rattle.kl_sym.specs.Index.{IsIndex};
 
@@ -45,6 +46,7 @@ fn parts_of(alloc: Global, inputs: &[Input]) -> Result<Vec<Part>, AllocError>
 }
 
 /// Resolves the names of a simple kernel kit (gABI, "Symbol Table"): the kept sections and where each of their fields leads.
+/// The graph is sound: each number in it is one of its list, and each field lies in the bytes of a piece.
 ///
 /// # Errors
 ///
@@ -57,6 +59,7 @@ pub fn resolve(alloc: Global, kit: &Kit, inputs: &[Input]) -> Result<Graph, Link
     requires inputs { AreFit inputs.now }
     requires simple { IsTrue (is_simple kit.now inputs.now) }
     ensures ok { IfOk result (λ g. g ≡ graph kit.now inputs.now) }
+    ensures graph { IfOk result (IsSoundGraph kit.now) }
     ensures sound { OnOk result (resolve_fault kit.now inputs.now ≡ None) }
     ensures err { IfErr result (λ e. (e ≡ LinkFault.NoMemory) ⊎ (resolve_fault kit.now inputs.now ≡ Some e)) }
 {

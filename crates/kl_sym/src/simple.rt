@@ -7,9 +7,9 @@ ghost use Rattle.kl_model.specs.Line.{classes};
 ghost use Rattle.kl_model.specs.Simple.{is_simple, is_simple_field, is_simple_input, is_simple_section, is_simple_symbol, known_flags, simple_kinds};
 ghost use Rattle.kl_model.specs.Kits.{is_empty, is_kernel};
 ghost use Rattle.kl_base.specs.declared.class.Class.TheVariants.{Text, Rodata, Rwdata};
-ghost use Rattle.kl_model.specs.Texts.{has, text_at};
+ghost use Rattle.kl_model.specs.Texts.{has};
 
-use kl_base::{Class, Range};
+use kl_base::Class;
 use kl_elf::abi::{
     R_X86_64_64, R_X86_64_NONE, R_X86_64_PC32, R_X86_64_PLT32, SHF_ALLOC, SHF_COMPRESSED,
     SHF_EXCLUDE, SHF_EXECINSTR, SHF_GROUP, SHF_INFO_LINK, SHF_MERGE, SHF_STRINGS, SHF_TLS,
@@ -30,15 +30,6 @@ const KNOWN_FLAGS: u64 = SHF_WRITE
     | SHF_COMPRESSED
     | SHF_EXCLUDE;
 
-/// The bytes of a range, as far as the file has them.
-fn text_at(bytes: &[u8], range: Range) -> &[u8]
-    ensures { result.now ≡ text_at bytes.now range }
-{
-    let start = bytes.len().min(range.at as usize);
-    let rest = &bytes[start..];
-    &rest[..rest.len().min(range.len as usize)]
-}
-
 /// Whether a name gives a section no area of its own.
 fn names_no_area(name: &[u8]) -> bool
     ensures { result ≡ list_all (λ c. is_none (named_area c name.now)) classes }
@@ -55,13 +46,13 @@ fn is_allocated(section: &Section) -> bool
     section.flags & SHF_ALLOC != 0
 }
 
-fn is_simple_section(bytes: &[u8], section: &Section) -> bool
-    ensures { result ≡ is_simple_section bytes.now section.now }
+fn is_simple_section(input: &Input, section: &Section) -> bool
+    ensures { result ≡ is_simple_section input.now.bytes section.now }
 {
     !is_allocated(section)
         || section.kind == SHT_PROGBITS
             && section.flags & KNOWN_FLAGS == SHF_ALLOC | SHF_EXECINSTR
-            && names_no_area(text_at(bytes, section.name))
+            && names_no_area(input.text(section.name))
 }
 
 fn is_simple_symbol(symbol: &Symbol) -> bool
@@ -104,12 +95,15 @@ fn is_no_comdat(group: &Group) -> bool
     !group.comdat
 }
 
-fn are_simple_sections(bytes: &[u8], sections: &[Section]) -> bool
-    ensures { result ≡ list_all (is_simple_section bytes.now) sections.now }
+fn are_simple_sections(input: &Input) -> bool
+    ensures { result ≡ list_all (is_simple_section input.now.bytes) input.now.object.sections }
 {
-    sections
+    input
+        .object
+        .sections
+        .items()
         .iter()
-        .all(|section| is_simple_section(bytes, section))
+        .all(|section| is_simple_section(input, section))
 }
 
 fn are_simple_symbols(symbols: &[Symbol]) -> bool
@@ -138,7 +132,7 @@ fn is_simple_input(input: &Input) -> bool
     ensures { result ≡ is_simple_input input.now }
 {
     let object = &input.object;
-    are_simple_sections(input.bytes.items(), object.sections.items())
+    are_simple_sections(input)
         && are_simple_symbols(object.symbols.items())
         && are_simple_fields(object)
         && are_no_comdats(object.groups.items())

@@ -1,5 +1,5 @@
 -- Lines and words of a text.
-use Rattle.std.specs.Prelude.{◌≡◌, ◌==◌, ℕ, Bool, true, false, not, cond, ◌&&◌, ◌||◌, List, [], ◌∷◌, ◌++◌, length, take, drop, Option, Some, None}
+use Rattle.std.specs.Prelude.{◌≡◌, ◌==◌, ℕ, Bool, true, false, not, cond, if◌then◌else◌, ◌&&◌, ◌||◌, List, [], ◌∷◌, ◌++◌, length, take, drop, Option, Some, None}
 use Rattle.std.specs.Str.{bytes_eq}
 use Rattle.std.specs.Option.{option_map}
 use Rattle.std.specs.List.{join_with_byte, list_all}
@@ -22,12 +22,12 @@ IsLine bytes = lacks 10 bytes ≡ true
 
 -- what follows a prefix
 abbrev pub after_prefix : List ℕ → List ℕ → Option (List ℕ)
-after_prefix p text = cond (bytes_eq (take (length p) text) p) (Some (drop (length p) text)) None
+after_prefix p text = if bytes_eq (take (length p) text) p then Some (drop (length p) text) else None
 
 -- bytes up to the first of this value, and those behind it
 abbrev pub cut : ℕ → List ℕ → Option (List ℕ × List ℕ)
 cut value [] = None
-cut value (b ∷ text) = cond (b == value) (Some ([], text)) (option_map (λ (l, rest). (b ∷ l, rest)) (cut value text))
+cut value (b ∷ text) = if b == value then Some ([], text) else option_map (λ (l, rest). (b ∷ l, rest)) (cut value text)
 
 -- the first line of a text that has a newline, and what follows it
 abbrev pub first_line : List ℕ → Option (List ℕ × List ℕ)
@@ -41,7 +41,7 @@ put_byte b (t ∷ ts) = (b ∷ t) ∷ ts
 -- the lines of a text, without the newlines that end them; the last may lack its own
 abbrev pub lines : List ℕ → List (List ℕ)
 lines [] = []
-lines (b ∷ text) = let rest = lines text in cond (b == 10) ([] ∷ rest) (put_byte b rest)
+lines (b ∷ text) = let rest = lines text in if b == 10 then [] ∷ rest else put_byte b rest
 
 -- a space or a tab (9)
 abbrev pub is_blank : ℕ → Bool
@@ -65,4 +65,4 @@ abbrev pub words : List ℕ → List (List ℕ)
 words [] = []
 words (b ∷ line) =
     let rest = words line in
-    cond (is_blank b) rest (cond (in_word line) (put_byte b rest) ((b ∷ []) ∷ rest))
+    if is_blank b then rest else if in_word line then put_byte b rest else (b ∷ []) ∷ rest

@@ -8,7 +8,7 @@ ghost use Rattle.link_tests.specs.Small.{IsSmall};
 
 use kl_base::{Listed, Name};
 use kl_kernel::link_kernel;
-use kl_model::{FieldAt, Input, Kit, KitKind, LinkFault, Linked, Part, Word};
+use kl_model::{FieldAt, Input, Kit, LinkFault, Linked, Part, Word};
 use kl_rel::read_object;
 use kl_sym::is_simple;
 use std::alloc::Global;
@@ -202,21 +202,15 @@ const BASE: u64 = 0xffff_ffff_8100_0000;
 fn kernel(alloc: Global) -> Result<Kit, Fail>
     ensures { IfOk result IsKernelKit }
 {
-    Ok(Kit {
-        kind: KitKind::Kernel,
-        output: Name::from_bytes(b"/bsd").ok().ok_or("a name")?,
-        base: BASE,
-        entry: Some(Word::from_vec(Vec::from_slice(alloc, b"start")?)),
-        inputs: Listed::new(alloc),
-        runs: Listed::new(alloc),
-        edges: Listed::new(alloc),
-        drops: Listed::new(alloc),
-        needed: Listed::new(alloc),
-        exports: Listed::new(alloc),
-        soname: None,
-        symbolic: false,
-        refuse: false,
-    })
+    let output = Name::from_bytes(b"/bsd").ok().ok_or("a name")?;
+    let entry = Word::from_vec(Vec::from_slice(alloc, b"start")?);
+    Ok(Kit::kernel(
+        alloc,
+        output,
+        BASE,
+        entry,
+        Listed::new(alloc),
+    ))
 }
 
 /// The input of an object with at most 4,096 bytes.

@@ -7,7 +7,7 @@ ghost use Rattle.kl_model.specs.declared.kit.KitKind.TheVariants.{Kernel};
 
 use kl_base::{Class, Listed, Name, NoMemory, PAGE, Range};
 use kl_layout::{LayoutFault, place};
-use kl_model::{AreaAt, Graph, Kit, KitKind, Made, Part, Piece, PieceId, Placement, Word};
+use kl_model::{AreaAt, Graph, Kit, Made, Part, Piece, PieceId, Placement, Word};
 use std::alloc::Global;
 use std::test::Fail;
 
@@ -24,21 +24,14 @@ fn kernel(alloc: Global, page: u64) -> Result<Kit, Fail>
     ensures kernel { IfOk result (λ kit. IsKernelKit kit) }
     ensures no_runs { IfOk result (λ kit. kit.runs ≡ []) }
 {
-    Ok(Kit {
-        kind: KitKind::Kernel,
-        output: Name::from_bytes(b"/bsd").ok().ok_or("a name")?,
-        base: PAGE * page,
-        entry: Some(Word::new(alloc)),
-        inputs: Listed::new(alloc),
-        runs: Listed::new(alloc),
-        edges: Listed::new(alloc),
-        drops: Listed::new(alloc),
-        needed: Listed::new(alloc),
-        exports: Listed::new(alloc),
-        soname: None,
-        symbolic: false,
-        refuse: false,
-    })
+    let output = Name::from_bytes(b"/bsd").ok().ok_or("a name")?;
+    Ok(Kit::kernel(
+        alloc,
+        output,
+        PAGE * page,
+        Word::new(alloc),
+        Listed::new(alloc),
+    ))
 }
 
 // The `.text` of an input, aligned to 16 bytes.

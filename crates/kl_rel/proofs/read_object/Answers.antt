@@ -1,4 +1,5 @@
 use Rattle.std.proofs.Common.{refl}
+use Rattle.std.proofs.Math.Facts.{Fits-lt-pow}
 use Rattle.std.proofs.lemmas.Result.{err_from_is_err_and}
 use Rattle.kl_rel.specs.Objects.{object}
 use Rattle.kl_rel.proofs.Whole.{has_table, head_answer, ranges_answer, sections_answer, symbol_table_answer, symbols_answer, relocations_answer, groups_answer, no_flaw}
@@ -64,4 +65,4 @@ returns-clause-fit c = λ x eb eo.
     let none = no_flaw b (has_table b c.in_ok-table.ensures.flaw) c.in_ok-check_ranges.ensures c.in_ok-sections.ensures.sound c.in_ok-symbol_table.ensures.flaw
     c.in_ok-symbols.ensures.sound c.in_ok-fields.ensures.sound c.in_ok-groups.ensures.sound in
     let same = rw (c.in_ok-sections.ensures.sections, c.in_ok-symbols.ensures.symbols, c.in_ok-fields.ensures.fields, c.in_ok-groups.ensures.groups) at eo in
-    object_is_fit b none x eb same
+    object_is_fit b (λ k. Fits-lt-pow (c.type_inv.bytes k)) none x eb same

@@ -25,15 +25,16 @@ loop-n-preserved c =
           let bs = (input_at inputs source.input).bytes in
           let input : get_or inputs w.in-Section.input w.index-inputs-input.result ≡ input_at inputs source.input =
           rw (← number) (get_or_default inputs source.input w.index-inputs-input.result no_input source.known) in
+          let is_input : w.index-inputs-input.result ≡ input_at inputs source.input = w.index-inputs-input.is ∙ input in
           let base : p.base < 2 ^ 64 = (let b = c.requires.stands.base in omega arith) in
           let l : n < length p.pieces = (let e = c.requires.stands.pieces in omega arith) in
-          let placed : get_or w.items-in-Section.result.now n zero_placed ≡ get_or p.pieces n no_placed = rw w.items-in-Section.ensures (get_or_default p.pieces n zero_placed no_placed l) in
+          let placed : get_or w.items.result.now n zero_placed ≡ get_or p.pieces n no_placed = rw w.items.ensures (get_or_default p.pieces n zero_placed no_placed l) in
           let place : w.file_place.result ≡ file_place p (stands_at p n) =
           rw placed at w.file_place.ensures ∙ ap (λ d. 4096 + d) (less_base p (get_or p.pieces n no_placed).address (c.requires.stands.addresses n no_placed l) base) in
-          let whole : x.bytes.at + x.bytes.len - x.bytes.at ≡ x.size = (let e = source.whole in omega arith) in
+          let whole : x.bytes.len ≡ x.size = source.whole in
           let long : length (take x.size (drop x.bytes.at bs)) ≡ x.size =
           (let room = source.bytes in let e = source.whole in simp (length-take, length-drop) (omega arith)) in
-          let put = rw (own, w.items.ensures, input, whole, long, place) at w.put_bytes.ensures in
+          let put = rw (w.text-bytes.ensures, own, is_input, whole, long, place) at w.put_bytes.ensures in
           rw w.image-is (record {
             written = written_more inputs p g c.requires.stands n h source c.args.image.now c.loop-n.image w.put_bytes.new.b put.rest put.written c.loop-n.invariant.written;
             rest = rest_more inputs p g c.requires.stands n h source c.args.image.now c.loop-n.image w.put_bytes.new.b put.rest put.written c.loop-n.invariant.rest;

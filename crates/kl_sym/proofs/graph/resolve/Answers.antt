@@ -5,6 +5,8 @@ use Rattle.kl_model.specs.Graphs.{graph}
 use Rattle.kl_sym.proofs.SimpleKits.{simple_kit}
 use Rattle.kl_sym.proofs.SimpleNames.{no_clashes, no_common_pieces}
 use Rattle.kl_sym.proofs.ResolveFaults.{first-doubled, first-entry, first-field, no-fault}
+use Rattle.kl_sym.proofs.SimpleGraphs.{edges_known}
+use Rattle.kl_sym.proofs.SoundFields.{graph_sound}
 use Rattle.kl_sym.proofs.graph.resolve.Goals as goal
 use Rattle.kl_model.proofs.Kernels.{no_dynamic_names}
 
@@ -44,6 +46,13 @@ returns-clause-ok c =
     let entry = c.in_ok-entry.ensures.ok inputs c.in_ok-index.ensures.index in
     let names = no_dynamic_names kit c.requires.kit.kernel inputs in
     rw (commons, append-nil, names, c.from_vec.ensures, c.from_vec-2.ensures, c.from_vec-3.ensures, c.new.ensures, c.in_ok-pieced.ensures.pieces, c.in_ok-fields.ensures.ok, entry, c.in_ok-parts.ensures) refl
+
+pub returns-clause-graph : goal.returns-clause-graph
+returns-clause-graph c =
+    let kit = c.args.kit.now in let inputs = c.args.inputs.now in
+    let is = returns-clause-ok c in
+    let edges = edges_known kit inputs c.requires.inputs (simple_kit kit inputs c.requires.simple) in
+    rw is (graph_sound kit inputs c.requires.inputs edges c.in_ok-fields.ensures.sound)
 
 pub returns-clause-sound : goal.returns-clause-sound
 returns-clause-sound c =

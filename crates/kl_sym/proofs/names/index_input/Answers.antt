@@ -12,14 +12,6 @@ use Rattle.kl_sym.proofs.IndexSteps.{double_is, noted_more, once_more}
 use Rattle.kl_sym.proofs.names.index_input.Goals as goal
 use Rattle.kl_sym.proofs.names.index_input.Goals.{then-symbol-eq-STB_GLOBAL+in-Some+in_ok-define, then-symbol-eq-STB_GLOBAL+in_default, else-symbol-eq-STB_GLOBAL}
 
-pub symbol_name-requires : goal.symbol_name-requires
-symbol_name-requires c =
-    let inputs = c.args.inputs.now in let i = c.args.i in
-    let x = c.index-inputs-i.is ∙ get_or_default inputs i _ no_input c.requires.input in
-    let symbols : c.items-symbol-items.result.now ≡ (input_at inputs i).object.symbols = c.items-symbol-items.ensures ∙ ap (λ (x : Input). x.object.symbols) x in
-    let l = rw symbols at c.loop-number-test.true in
-    rw (symbols, x) ((c.requires.inputs.each_input i no_input c.requires.input).symbols.each_symbol c.loop-number.number no_symbol l).name.inside
-
 pub returns-in_err-define-clause-err : goal.returns-in_err-define-clause-err
 returns-in_err-define-clause-err c =
     let kit = c.args.kit.now in let inputs = c.args.inputs.now in let i = c.args.i in let n = c.loop-number.number in
