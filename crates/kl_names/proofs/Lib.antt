@@ -1,0 +1,6 @@
+pub mod NameLists
+pub mod Steps
+pub mod Doubles
+pub mod TableAt
+pub mod FactSteps
+pub mod NotedSteps

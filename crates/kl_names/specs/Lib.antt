@@ -1,0 +1,5 @@
+pub mod Numbers
+pub mod Facts
+pub mod Tables
+pub mod Walked
+pub mod Noted

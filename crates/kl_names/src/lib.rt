@@ -1,0 +1,13 @@
+//! The names of a kit's symbols by number, and what its symbols say of each name. A name is looked for once a symbol; all that
+//! comes after goes by number.
+#![tactic(auto)]
+
+mod facts;
+mod index;
+mod noted;
+mod numbers;
+
+pub use facts::{Common, NameFacts, SymbolAt};
+pub use index::NameIndex;
+pub use noted::{Notes, PieceTable, name_text, note_symbols};
+pub use numbers::{Numbering, number_names, symbol_name};
