@@ -4,3 +4,4 @@ pub mod Doubles
 pub mod TableAt
 pub mod FactSteps
 pub mod NotedSteps
+pub mod RemovedSteps

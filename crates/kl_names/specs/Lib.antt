@@ -3,3 +3,4 @@ pub mod Facts
 pub mod Tables
 pub mod Walked
 pub mod Noted
+pub mod Removed

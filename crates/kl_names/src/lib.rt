@@ -6,8 +6,10 @@ mod facts;
 mod index;
 mod noted;
 mod numbers;
+mod removed;
 
 pub use facts::{Common, NameFacts, SymbolAt};
 pub use index::NameIndex;
 pub use noted::{Notes, PieceTable, name_text, note_symbols};
 pub use numbers::{Numbering, number_names, symbol_name};
+pub use removed::{RemovedTable, removed_sections};
