@@ -5,3 +5,4 @@ pub mod TableAt
 pub mod FactSteps
 pub mod NotedSteps
 pub mod RemovedSteps
+pub mod CommonLaws

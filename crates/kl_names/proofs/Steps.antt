@@ -74,21 +74,24 @@ filter-le p (t ∷ ts) = elim (cases_Bool (p t)) [
   | inr a ↦ rw a (let r = filter-le p ts in omega arith)
 ]
 
-once-le : (ts : List (List ℕ)) → length (once bytes_eq ts) ≤ length ts
+pub once-le : (ts : List (List ℕ)) → length (once bytes_eq ts) ≤ length ts
 once-le [] = omega arith
 once-le (t ∷ ts) = let few = filter-le (λ y. not (bytes_eq t y)) (once bytes_eq ts) in let r = once-le ts in omega arith
+
+pub occurrences-le : (inputs : List Input) → length (occurrences inputs) ≤ sum_by (λ x. length x.object.symbols) inputs
+occurrences-le inputs = length-each-le 0 occurring_in (λ x. length x.object.symbols) inputs (λ k x. occurs-le k x 0 x.object.symbols)
 
 pub symbols-small : (inputs : List Input) (i n : ℕ) → i < length inputs → n < length (input_at inputs i).object.symbols → sum_by (λ x. length x.object.symbols) inputs ≤ SYMBOL_COUNT_LIMIT
     → length (occurring_up_to inputs i n) < 2 ^ 32
 symbols-small inputs i n h l few =
-    let all = length-each-le 0 occurring_in (λ x. length x.object.symbols) inputs (λ k x. occurs-le k x 0 x.object.symbols) in
+    let all = occurrences-le inputs in
     let cut = ap length (split inputs i n h l) ∙ length-append (occurring_up_to inputs i n) _ in
     omega (arith, all, cut)
 
 pub names-small : (inputs : List Input) (i n : ℕ) → i < length inputs → n < length (input_at inputs i).object.symbols → sum_by (λ x. length x.object.symbols) inputs ≤ SYMBOL_COUNT_LIMIT
     → length (names_in (occurring_up_to inputs i n)) < 2 ^ 32
 names-small inputs i n h l few =
-    let all = length-each-le 0 occurring_in (λ x. length x.object.symbols) inputs (λ k x. occurs-le k x 0 x.object.symbols) in
+    let all = occurrences-le inputs in
     let cut = ap length (split inputs i n h l) ∙ length-append (occurring_up_to inputs i n) _ in
     let once = once-le (map (λ o. o.name) (occurring_up_to inputs i n)) in
     let same = length-map (occurring_up_to inputs i n) (λ o. o.name) in

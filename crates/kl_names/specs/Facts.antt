@@ -1,5 +1,5 @@
 -- What the symbols of each name say, in the words of the definitions.
-use Rattle.std.specs.Prelude.{ℕ, cond, ◌==◌, List, map, filter, slice_get, Option, Some, None}
+use Rattle.std.specs.Prelude.{ℕ, ◌≡◌, cond, ◌==◌, List, map, filter, slice_get, Option, Some, None}
 use Rattle.std.specs.Str.{bytes_eq}
 use Rattle.std.specs.Option.{option_map}
 use Rattle.std.specs.List.{list_all}
@@ -9,6 +9,7 @@ use Rattle.kl_model.specs.Kits.{is_empty}
 use Rattle.kl_model.specs.Names.{Occurrence, common_align, common_size, commons_of, first_definition, is_common, occurrences, occurrences_of, visibility}
 use Rattle.kl_model.specs.declared.object.Input.{Input}
 use Rattle.kl_model.specs.declared.kit.Kit.{Kit}
+use Rattle.kl_names.specs.declared.noted.Notes.{Notes}
 use Rattle.kl_names.specs.declared.facts.SymbolAt.{SymbolAt}
 use Rattle.kl_names.specs.declared.facts.Common.{Common}
 use Rattle.kl_names.specs.declared.facts.NameFacts.{NameFacts}
@@ -35,3 +36,8 @@ facts_of kit inputs name = record {
 -- the names that have common symbols, in the order of the first of those
 abbrev pub common_symbol_names : List Input → List (List ℕ)
 common_symbol_names inputs = once bytes_eq (map (λ o. o.name) (filter is_common (occurrences inputs)))
+
+-- Of each of some names what its symbols say, and the numbers of those that have common symbols.
+pub record AreNotes (kit : Kit) (inputs : List Input) (names : List (List ℕ)) (notes : Notes) : Type 0 where
+  pub facts : notes.facts.items ≡ map (facts_of kit inputs) names
+  pub commons : map (slice_get names) notes.commons.items ≡ map Some (common_symbol_names inputs)

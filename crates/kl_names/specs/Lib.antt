@@ -4,3 +4,4 @@ pub mod Tables
 pub mod Walked
 pub mod Noted
 pub mod Removed
+pub mod Commons

@@ -2,12 +2,14 @@
 //! comes after goes by number.
 #![tactic(auto)]
 
+mod commons;
 mod facts;
 mod index;
 mod noted;
 mod numbers;
 mod removed;
 
+pub use commons::{Commons, common_pieces};
 pub use facts::{Common, NameFacts, SymbolAt};
 pub use index::NameIndex;
 pub use noted::{Notes, PieceTable, name_text, note_symbols};

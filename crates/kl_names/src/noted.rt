@@ -4,7 +4,7 @@ ghost use Rattle.kl_model.specs.Lists.{only_if};
 ghost use Rattle.kl_model.specs.Names.{occurrences};
 ghost use Rattle.kl_model.specs.Faults.{doubled};
 ghost use Rattle.kl_model.specs.Fit.{AreFit};
-ghost use Rattle.kl_names.specs.Facts.{common_symbol_names, facts_of};
+ghost use Rattle.kl_names.specs.Facts.{AreNotes};
 ghost use Rattle.kl_names.specs.Numbers.{AreNumbered};
 ghost use Rattle.kl_names.specs.Noted.{AreNoted, IsDouble, defines, noted};
 ghost use Rattle.kl_names.specs.Tables.{piece_table, piece_tables};
@@ -164,8 +164,7 @@ pub fn note_symbols(
     requires inputs { AreFit inputs.now }
     requires tables { tables.now ≡ piece_tables kit.now inputs.now }
     requires numbered { AreNumbered (occurrences inputs.now) numbering.now.index numbering.now.numbers.items }
-    ensures facts { IfOk result (λ n. n.facts.items ≡ map (facts_of kit.now inputs.now) numbering.now.index) }
-    ensures commons { IfOk result (λ n. map (slice_get numbering.now.index) n.commons.items ≡ map Some (common_symbol_names inputs.now)) }
+    ensures notes { IfOk result (AreNotes kit.now inputs.now numbering.now.index) }
     ensures single { OnOk result (doubled kit.now inputs.now ≡ []) }
     ensures err { IfErr result (λ e. (e ≡ LinkFault.NoMemory) ⊎ (slice_get (doubled kit.now inputs.now) 0 ≡ Some e)) }
 {

@@ -28,19 +28,12 @@ note_input-requires-clause-table c =
     let h : c.loop-i.i < length c.args.inputs.now = omega arith in
     c.index-tables-i.is ∙ rw c.requires.tables (tables_at c.args.kit.now c.args.inputs.now c.loop-i.i _ h)
 
-pub returns-clause-facts : goal.returns-clause-facts
-returns-clause-facts c =
+pub returns-clause-notes : goal.returns-clause-notes
+returns-clause-notes c =
     let many = ap length c.requires.tables ∙ length-tables c.args.kit.now c.args.inputs.now in
     let past = c.loop-i-test.false in
     let all : occurring_before c.args.inputs.now c.loop-i.i ≡ occurrences c.args.inputs.now = each_all occurring_in c.args.inputs.now c.loop-i.i (omega arith) in
-    rw all at c.loop-i.invariant.said
-
-pub returns-clause-commons : goal.returns-clause-commons
-returns-clause-commons c =
-    let many = ap length c.requires.tables ∙ length-tables c.args.kit.now c.args.inputs.now in
-    let past = c.loop-i-test.false in
-    let all : occurring_before c.args.inputs.now c.loop-i.i ≡ occurrences c.args.inputs.now = each_all occurring_in c.args.inputs.now c.loop-i.i (omega arith) in
-    rw all at c.loop-i.invariant.common
+    record { facts = rw all at c.loop-i.invariant.said; commons = rw all at c.loop-i.invariant.common }
 
 pub returns-clause-single : goal.returns-clause-single
 returns-clause-single c =
