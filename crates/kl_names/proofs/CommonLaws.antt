@@ -1,5 +1,5 @@
 -- The commons that hold, among the names that have common symbols.
-use Rattle.std.proofs.Common.{ℕ, zero, suc, ◌≡◌, ◌+◌, ◌<◌, ◌≤◌, ◌^◌, ◌∙◌, List, [], ◌∷◌, ◌++◌, length, get_or, take, refl, ap, sym, Bool, true, false, not, ◌&&◌, ◌||◌, cond, inl, inr, arith}
+use Rattle.std.proofs.Common.{ℕ, zero, suc, ◌≡◌, ◌+◌, ◌<◌, ◌≤◌, ◌∙◌, List, [], ◌∷◌, ◌++◌, length, get_or, take, refl, ap, sym, Bool, true, false, not, ◌&&◌, ◌||◌, cond, inl, inr, arith}
 use Rattle.std.specs.Prelude.{Some, None, Option, slice_get, map, filter, is_none, sum_by}
 use Rattle.std.specs.Str.{bytes_eq}
 use Rattle.std.specs.Option.{option_map}
@@ -84,7 +84,7 @@ has_common inputs name e = go (is_empty (commons_of inputs name)) refl
         common-stands (occurrences inputs) name ∙ ap not (sym (among-once (map (λ o. o.name) (filter is_common (occurrences inputs))) name) ∙ e) in
         let no : true ≡ false = sym none ∙ some in cc
 
-pub commons-small : (inputs : List Input) → sum_by (λ x. length x.object.symbols) inputs ≤ SYMBOL_COUNT_LIMIT → length (common_symbol_names inputs) < 2 ^ 32
+pub commons-small : (inputs : List Input) → sum_by (λ x. length x.object.symbols) inputs ≤ SYMBOL_COUNT_LIMIT → length (common_symbol_names inputs) ≤ SYMBOL_COUNT_LIMIT
 commons-small inputs few =
     let once = once-le (map (λ o. o.name) (filter is_common (occurrences inputs))) in
     let same = length-map (filter is_common (occurrences inputs)) (λ o. o.name) in

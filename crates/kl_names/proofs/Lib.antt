@@ -6,3 +6,4 @@ pub mod FactSteps
 pub mod NotedSteps
 pub mod RemovedSteps
 pub mod CommonLaws
+pub mod OwnLaws

@@ -64,7 +64,7 @@ pub are-once : (ts : List (List ℕ)) → AreOnce (once bytes_eq ts)
 are-once [] = tt
 are-once (t ∷ ts) = (others-none t (once bytes_eq ts), once-filter (λ y. not (bytes_eq t y)) (once bytes_eq ts) (are-once ts))
 
-apart : (ms : List (List ℕ)) (m t : List ℕ) (k : ℕ) → among ms m ≡ false → slice_get ms k ≡ Some t → bytes_eq m t ≡ false
+pub apart : (ms : List (List ℕ)) (m t : List ℕ) (k : ℕ) → among ms m ≡ false → slice_get ms k ≡ Some t → bytes_eq m t ≡ false
 apart [] m t k e g = cc
 apart (x ∷ ms) m t zero e g = let s : x ≡ t = cc in elim (cases_Bool (bytes_eq m x)) [
   | inl a ↦ let no : true ≡ false = rw a at e in cc

@@ -5,3 +5,4 @@ pub mod Walked
 pub mod Noted
 pub mod Removed
 pub mod Commons
+pub mod Definitions

@@ -3,6 +3,7 @@
 #![tactic(auto)]
 
 mod commons;
+mod definitions;
 mod facts;
 mod index;
 mod noted;
@@ -10,6 +11,7 @@ mod numbers;
 mod removed;
 
 pub use commons::{Commons, common_pieces};
+pub use definitions::{own_definitions, symbol_place};
 pub use facts::{Common, NameFacts, SymbolAt};
 pub use index::NameIndex;
 pub use noted::{Notes, PieceTable, name_text, note_symbols};
