@@ -1,0 +1,19 @@
+//! The names of a kit's symbols by number, and what its symbols say of each name. A name is looked for once a symbol; all that
+//! comes after goes by number.
+#![tactic(auto)]
+
+mod commons;
+mod definitions;
+mod facts;
+mod index;
+mod noted;
+mod numbers;
+mod removed;
+
+pub use commons::{Commons, common_pieces};
+pub use definitions::{own_definitions, symbol_place};
+pub use facts::{Common, NameFacts, SymbolAt};
+pub use index::NameIndex;
+pub use noted::{Notes, PieceTable, name_text, note_symbols};
+pub use numbers::{Numbering, number_names, symbol_name};
+pub use removed::{RemovedTable, removed_sections};
