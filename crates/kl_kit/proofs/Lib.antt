@@ -1,0 +1,7 @@
+mod LineFaults
+mod Numbers
+mod Reading
+mod Rows
+mod Said
+mod SeenKeys
+mod Words
