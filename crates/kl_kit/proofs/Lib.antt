@@ -1,3 +1,4 @@
+mod KernelKits
 mod LineFaults
 mod Numbers
 mod Reading
