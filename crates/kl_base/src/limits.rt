@@ -60,6 +60,9 @@ pub const WORD_LIMIT: usize = 255;
 /// The length of a file's name in a kit text, and of the name of a kit's folder, in bytes.
 pub const FILE_LIMIT: usize = 127;
 
+/// The length of the name of an image other than a kernel, in bytes.
+pub const OUTPUT_LIMIT: usize = 200;
+
 /// The end of a scratch name.
 pub const SCRATCH_SUFFIX: [u8; 7] = *b".relink";
 

@@ -8,7 +8,7 @@ use Rattle.kl_base.proofs.Bools.{and_left, and_right}
 use Rattle.kl_text.specs.Lines.{line, IsLine, lacks, lines, words, is_blank, in_word, put_byte, IsOneWord, is_one_word}
 
 -- a line, and those behind it
-lines-append : (l rest : List ℕ) → lacks 10 l ≡ true → lines (l ++ 10 ∷ rest) ≡ l ∷ lines rest
+pub lines-append : (l rest : List ℕ) → lacks 10 l ≡ true → lines (l ++ 10 ∷ rest) ≡ l ∷ lines rest
 lines-append [] rest is = refl
 lines-append (b ∷ l) rest is =
     let here = not-true (b == 10) (and_left (not (b == 10)) (lacks 10 l) is) in
@@ -18,7 +18,7 @@ pub lines-line : (l rest : List ℕ) → IsLine l → lines (line l ++ rest) ≡
 lines-line l rest is = ap lines (append_assoc l (10 ∷ []) rest) ∙ lines-append l rest is
 
 -- a word, where no word goes on behind it
-word-append : (w rest : List ℕ) → IsOneWord w → in_word rest ≡ false → words (w ++ rest) ≡ w ∷ words rest
+pub word-append : (w rest : List ℕ) → IsOneWord w → in_word rest ≡ false → words (w ++ rest) ≡ w ∷ words rest
 word-append [] rest is ends = cc
 word-append (b ∷ []) rest is ends = rw (not-true (is_blank b) (and_left (not (is_blank b)) true is), ends) refl
 word-append (b ∷ c ∷ w) rest is ends =

@@ -1,0 +1,8 @@
+mod KernelKits
+mod LineFaults
+mod Numbers
+mod Reading
+mod Rows
+mod Said
+mod SeenKeys
+mod Words

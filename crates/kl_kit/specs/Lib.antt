@@ -1,0 +1,6 @@
+pub mod Forms
+pub mod Keys
+pub mod Keywords
+pub mod KitLines
+pub mod KitTexts
+pub mod Readers

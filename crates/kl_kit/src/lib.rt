@@ -1,0 +1,14 @@
+//! The text of a kit: which lines it has, what each of them says, and the first fault.
+#![tactic(auto)]
+
+mod fault;
+mod form;
+mod key;
+mod keyword;
+mod line;
+mod parts;
+mod read;
+mod statement;
+
+pub use fault::{KitError, KitFault, Needed};
+pub use read::read_kit;
