@@ -13,3 +13,4 @@ pub mod SoundTargets
 pub mod SoundPieces
 pub mod SoundFields
 pub mod SimpleGraphs
+pub mod RunSteps

@@ -15,7 +15,7 @@ use Rattle.kl_model.specs.declared.object.Input.{Input}
 use Rattle.kl_model.specs.declared.kit.Kit.{Kit}
 use Rattle.kl_model.proofs.Each.{each-split, each-length, length-each-le}
 
-position-append : {X : Type 0} (t : X → Bool) (n : ℕ) (xs ys : List X) → position_from t n (xs ++ ys) ≡ option_or (position_from t n xs) (position_from t (n + length xs) ys)
+pub position-append : {X : Type 0} (t : X → Bool) (n : ℕ) (xs ys : List X) → position_from t n (xs ++ ys) ≡ option_or (position_from t n xs) (position_from t (n + length xs) ys)
 position-append t n [] ys = let e : n + zero ≡ n = omega arith in rw e refl
 position-append t n (x ∷ xs) ys =
     let e : n + suc (length xs) ≡ n + 1 + length xs = omega arith in

@@ -1,3 +1,4 @@
 pub mod Tables
 pub mod Index
 pub mod Targets
+pub mod SectionLines

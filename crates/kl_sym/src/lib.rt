@@ -3,6 +3,7 @@
 
 mod fields;
 mod graph;
+mod lines;
 mod names;
 mod pieces;
 mod simple;
