@@ -7,3 +7,4 @@ pub mod NotedSteps
 pub mod RemovedSteps
 pub mod CommonLaws
 pub mod OwnLaws
+pub mod EdgeLaws

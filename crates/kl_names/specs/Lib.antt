@@ -6,3 +6,4 @@ pub mod Noted
 pub mod Removed
 pub mod Commons
 pub mod Definitions
+pub mod Edges
