@@ -8,3 +8,4 @@ pub mod RemovedSteps
 pub mod CommonLaws
 pub mod OwnLaws
 pub mod EdgeLaws
+pub mod LineOrder

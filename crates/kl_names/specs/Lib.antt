@@ -7,3 +7,4 @@ pub mod Removed
 pub mod Commons
 pub mod Definitions
 pub mod Edges
+pub mod EdgeLines

@@ -3,6 +3,7 @@
 #![tactic(auto)]
 
 mod commons;
+mod edge_lines;
 mod edges;
 mod facts;
 mod index;
@@ -12,6 +13,7 @@ mod own;
 mod removed;
 
 pub use commons::{Commons, common_pieces};
+pub use edge_lines::edge_names;
 pub use edges::{EdgeName, definitions, edge_targets, entry_of};
 pub use facts::{Common, NameFacts, SymbolAt};
 pub use index::NameIndex;
