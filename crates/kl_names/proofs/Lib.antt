@@ -7,3 +7,5 @@ pub mod NotedSteps
 pub mod RemovedSteps
 pub mod CommonLaws
 pub mod OwnLaws
+pub mod EdgeLaws
+pub mod LineOrder

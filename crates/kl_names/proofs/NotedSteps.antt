@@ -76,7 +76,7 @@ apart (x ∷ ms) m t (suc k) e g = elim (cases_Bool (bytes_eq m x)) [
 ]
 
 module _ {X : Type 0} (f g : List ℕ → X) (t : List ℕ) (same : (m : List ℕ) → bytes_eq t m ≡ false → g m ≡ f m) where
-  kept : (ms : List (List ℕ)) → among ms t ≡ false → map g ms ≡ map f ms
+  pub kept : (ms : List (List ℕ)) → among ms t ≡ false → map g ms ≡ map f ms
   kept [] e = refl
   kept (m ∷ ms) e = elim (cases_Bool (bytes_eq t m)) [
     | inl a ↦ let no : true ≡ false = rw a at e in cc

@@ -6,3 +6,5 @@ pub mod Noted
 pub mod Removed
 pub mod Commons
 pub mod Definitions
+pub mod Edges
+pub mod EdgeLines

@@ -6,7 +6,7 @@ use Rattle.kl_names.specs.Definitions.{common_target}
 use Rattle.kl_names.specs.Facts.{facts_of}
 use Rattle.kl_names.proofs.OwnLaws.{first-stands, map-more, map-name, nothing_noted}
 use Rattle.kl_names.proofs.TableAt.{length-tables}
-use Rattle.kl_names.proofs.definitions.own_definitions.Goals as goal
+use Rattle.kl_names.proofs.own.own_definitions.Goals as goal
 
 pub own_definition-requires-clause-count : goal.own_definition-requires-clause-count
 own_definition-requires-clause-count c = ap length c.requires.tables ∙ length-tables c.args.kit.now c.args.inputs.now

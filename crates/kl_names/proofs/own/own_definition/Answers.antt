@@ -3,7 +3,7 @@ use Rattle.std.specs.Prelude.{Option}
 use Rattle.kl_model.specs.Kept.{input_at, no_symbol}
 use Rattle.kl_names.specs.Definitions.{symbol_place}
 use Rattle.kl_names.proofs.OwnLaws.{by_common, by_global, by_none, by_weak}
-use Rattle.kl_names.proofs.definitions.own_definition.Goals as goal
+use Rattle.kl_names.proofs.own.own_definition.Goals as goal
 
 pub returns-in-Some-default-default : goal.returns-in-Some-default-default
 returns-in-Some-default-default c = λ kit name tables fact common.

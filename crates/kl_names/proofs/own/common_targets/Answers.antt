@@ -5,7 +5,7 @@ use Rattle.kl_model.specs.Names.{common_names, kept_numbers, occurrences}
 use Rattle.kl_names.proofs.CommonLaws.{commons-small, map-at}
 use Rattle.kl_names.proofs.NotedSteps.{AreOnce, are-once, get-inside}
 use Rattle.kl_names.proofs.OwnLaws.{common_names-le, common_names-once, kept-le, placed_by, placed-more, placed-none}
-use Rattle.kl_names.proofs.definitions.common_targets.Goals as goal
+use Rattle.kl_names.proofs.own.common_targets.Goals as goal
 
 pub loop-k-init : goal.loop-k-init
 loop-k-init c =
