@@ -17,7 +17,7 @@ use Rattle.kl_model.specs.declared.graph.Target.{Target}
 use Rattle.kl_model.specs.declared.graph.Target.TheVariants.{Place, Abs}
 use Rattle.kl_model.specs.declared.link.LinkFault.TheVariants as fault
 use Rattle.kl_model.proofs.Each.{each_more, each_all, each-split, each-same, filter-each}
-use Rattle.kl_sym.specs.Tables.{piece_entry, piece_table, piece_tables}
+use Rattle.kl_names.specs.Tables.{piece_entry, piece_table, piece_tables}
 use Rattle.kl_sym.specs.Index.{occurrence, defined, defined_in, defined_before, symbol_place, last_of}
 use Rattle.kl_sym.proofs.SimpleKits.{or_right, and_right, not_true}
 use Rattle.kl_sym.proofs.Doubles.{doubled-first}

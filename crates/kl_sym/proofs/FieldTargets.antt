@@ -14,7 +14,7 @@ use Rattle.kl_model.specs.declared.object.Input.{Input}
 use Rattle.kl_model.specs.declared.object.RawField.{RawField}
 use Rattle.kl_model.specs.declared.kit.Kit.{Kit}
 use Rattle.kl_model.specs.declared.link.LinkFault.{LinkFault}
-use Rattle.kl_sym.specs.Tables.{piece_table}
+use Rattle.kl_names.specs.Tables.{piece_table}
 use Rattle.kl_sym.specs.Index.{IsIndex}
 use Rattle.kl_sym.specs.Targets.{target_by, field_by, faults_by, symbol_in}
 use Rattle.kl_sym.specs.declared.names.Definition.{Definition}

@@ -17,7 +17,7 @@ use Rattle.kl_model.specs.declared.kit.Kit.{Kit}
 use Rattle.kl_model.specs.declared.graph.Target.{Target}
 use Rattle.kl_model.specs.declared.link.LinkFault.{LinkFault}
 use Rattle.kl_model.specs.declared.link.LinkFault.TheVariants as fault
-use Rattle.kl_sym.specs.Tables.{piece_table}
+use Rattle.kl_names.specs.Tables.{piece_table}
 use Rattle.kl_sym.specs.Index.{Indexes, IsDouble, defined, definition_of, found, last_of, occurrence, symbol_place}
 use Rattle.kl_sym.specs.declared.names.Definition.{Definition}
 use Rattle.kl_sym.proofs.Doubles.{last_push, doubled-none}

@@ -1,8 +1,7 @@
 -- One run more among the areas of first runs, by names and classes.
-use Rattle.std.proofs.Common.{ℕ, zero, suc, ◌≡◌, ◌≢◌, ◌+◌, ◌<◌, ◌≤◌, ◌∙◌, List, [], ◌∷◌, ◌++◌, length, set, refl, ap, sym, arith, Bool, true, false, not, ◌&&◌, ◌||◌, cond, inl, inr, eq-eqb, length-append}
-use Rattle.std.specs.Prelude.{Some, None, Option, slice_get, ◌==◌}
+use Rattle.std.proofs.Common.{ℕ, zero, suc, ◌≡◌, ◌≢◌, ◌+◌, ◌<◌, ◌≤◌, ◌∙◌, List, [], ◌∷◌, ◌++◌, length, set, refl, ap, sym, arith, Bool, true, false, not, ◌&&◌, ◌||◌, cond, inl, inr, length-append}
+use Rattle.std.specs.Prelude.{Some, None, Option, slice_get}
 use Rattle.std.specs.Option.{option_and_then, option_or}
-use Rattle.std.specs.List.{position_from}
 use Rattle.std.specs.Str.{bytes_eq}
 use Rattle.std.proofs.lemmas.Bool.{cases_Bool}
 use Rattle.std.proofs.lemmas.Cmp.{nat_list_eq_equiv}

@@ -1,4 +1,3 @@
-pub mod Tables
 pub mod Index
 pub mod Targets
 pub mod SectionLines

@@ -1,5 +1,5 @@
 -- What is kept of the `drop` and `run` lines of a kit. For the contracts inside this crate alone.
-use Rattle.std.specs.Prelude.{ℕ, ◌≡◌, ◌&&◌, List, length, slice_get, Option, Some, None}
+use Rattle.std.specs.Prelude.{ℕ, ◌≡◌, ◌&&◌, List, length, slice_get, Option}
 use Rattle.std.specs.Option.{option_and_then}
 use Rattle.std.specs.List.{position_from}
 use Rattle.std.specs.Str.{bytes_eq}

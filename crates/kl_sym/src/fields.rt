@@ -7,16 +7,16 @@ ghost use Rattle.kl_model.specs.Relocations.{is_kind};
 ghost use Rattle.kl_model.specs.Fit.{AreFit, IsFit, IsFitField, section_in};
 ghost use Rattle.kl_model.specs.Graphs.{input_fields};
 ghost use Rattle.kl_model.specs.Graphs.{fields as fields_of};
-ghost use Rattle.kl_sym.specs.Tables.{piece_table, piece_tables};
+ghost use Rattle.kl_names.specs.Tables.{piece_table, piece_tables};
 ghost use Rattle.kl_sym.specs.Index.{IsIndex};
 ghost use Rattle.kl_sym.specs.Targets.{faults_by, field_by, missing_by};
 ghost use Rattle.kl_sym.specs.Targets.{target_by};
 ghost use Rattle.kl_model.specs.declared.kit.KitKind.TheVariants.{Kernel};
 
 use crate::names::{Index, lookup, name_text, symbol_name, symbol_place};
-use crate::pieces::PieceTable;
 use kl_elf::abi::{R_X86_64_NONE, STB_LOCAL, STB_WEAK};
 use kl_model::{Field, FieldAt, Input, Kit, LinkFault, RawField, Target, is_linked};
+use kl_names::PieceTable;
 use std::alloc::Global;
 
 /// The name of a section of an input.

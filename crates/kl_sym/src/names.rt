@@ -5,13 +5,13 @@ ghost use Rattle.kl_model.specs.Texts.{text_at};
 ghost use Rattle.kl_model.specs.Faults.{doubled, doubled_after};
 ghost use Rattle.kl_model.specs.Fit.{AreFit};
 ghost use Rattle.kl_model.specs.Simple.{is_simple};
-ghost use Rattle.kl_sym.specs.Tables.{piece_table, piece_tables};
+ghost use Rattle.kl_names.specs.Tables.{piece_table, piece_tables};
 ghost use Rattle.kl_sym.specs.Index.{Indexes, IsDouble, IsIndex, defined_before, found, symbol_place, target_in};
 
-use crate::pieces::PieceTable;
 use kl_base::{Listed, NoMemory};
 use kl_elf::abi::{SHN_ABS, STB_GLOBAL};
 use kl_model::{Input, Kit, LinkFault, NameText, Symbol, Target};
+use kl_names::PieceTable;
 use std::alloc::Global;
 use std::collections::BTreeMap;
 

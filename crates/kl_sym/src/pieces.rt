@@ -1,25 +1,27 @@
 // Which sections are kept, and their pieces.
-ghost use Rattle.std.specs.Prelude.{◌≡◌, ◌&&◌, not, ◌+◌, ◌<◌, ◌≤◌, ◌++◌, true, length, take, IfOk, OnOk, IsTrue};
+ghost use Rattle.std.specs.Prelude.{◌≡◌, ◌&&◌, not, ◌+◌, ◌<◌, ◌≤◌, ◌++◌, true, length, take, unwrap_or, IfOk, OnOk};
 ghost use Rattle.kl_model.specs.Lists.{each};
-ghost use Rattle.kl_model.specs.Texts.{has};
+ghost use Rattle.kl_model.specs.Texts.{has, text_at};
 ghost use Rattle.kl_model.specs.Kept.{class_of as class_of_section};
-ghost use Rattle.kl_model.specs.Areas.{class_number};
+ghost use Rattle.kl_model.specs.Areas.{class_number, named_area, typed_area};
 ghost use Rattle.kl_model.specs.Graphs.{piece_of, input_pieces};
 ghost use Rattle.kl_model.specs.Graphs.{section_pieces as pieces_of_sections};
 ghost use Rattle.kl_model.specs.declared.kit.Kit.{Kit};
 ghost use Rattle.kl_model.specs.declared.object.Input.{Input};
 ghost use Rattle.kl_model.specs.Fit.{AreFit};
-ghost use Rattle.kl_model.specs.Simple.{is_simple};
-ghost use Rattle.kl_sym.specs.Tables.{IsOrdinary, piece_table, piece_tables};
+ghost use Rattle.kl_model.specs.Lists.{among};
+ghost use Rattle.kl_model.specs.Kept.{run_area};
+ghost use Rattle.kl_names.specs.Removed.{repeated_table};
+ghost use Rattle.kl_sym.specs.SectionLines.{AreLines};
+ghost use Rattle.kl_names.specs.Tables.{piece_table, piece_tables};
 
-use kl_base::{Class, Listed, NoMemory, Range};
+use crate::lines::SectionLines;
+use kl_base::{Class, KIT_TEXT_LIMIT, NoMemory, Range};
 use kl_elf::abi::{SHF_ALLOC, SHF_EXCLUDE, SHF_EXECINSTR, SHF_WRITE, SHT_NOBITS};
-use kl_model::area::class_number;
+use kl_model::area::{class_number, named_area, typed_area};
 use kl_model::{Input, Kit, Piece, PieceId, Section};
+use kl_names::{PieceTable, RemovedTable, removed_sections};
 use std::alloc::Global;
-
-/// The number of each section's piece, by section number, where the section is kept.
-pub type PieceTable = Listed<Option<u32>>;
 
 /// The pieces of a kit, and the table of each input.
 #[derive(Drop)]
@@ -28,11 +30,14 @@ pub struct Pieced {
     pub tables: Vec<PieceTable>,
 }
 
-/// Whether a section of a simple kit is kept.
-fn is_kept(section: &Section) -> bool
-    ensures { result ≡ (has section.now.flags SHF_ALLOC && not (has section.now.flags SHF_EXCLUDE)) }
+/// Whether a section of this name is kept; `removed` says whether it is left out with its group.
+fn is_kept(lines: &SectionLines<'_>, section: &Section, name: &[u8], removed: bool) -> bool
+    ensures { (kit : Kit) → AreLines kit lines.now → result ≡ (has section.now.flags SHF_ALLOC && (not (has section.now.flags SHF_EXCLUDE) && (not (among kit.drops name.now) && not removed))) }
 {
-    section.flags & SHF_ALLOC != 0 && section.flags & SHF_EXCLUDE == 0
+    section.flags & SHF_ALLOC != 0
+        && section.flags & SHF_EXCLUDE == 0
+        && !lines.is_dropped(name)
+        && !removed
 }
 
 /// The class of a section.
@@ -50,9 +55,32 @@ fn class_of(section: &Section) -> Class
     }
 }
 
-/// The piece of section `number` of input `i`, where it is in no area.
-fn ordinary_piece(i: u32, number: u32, section: &Section) -> Piece
-    ensures { (kit : Kit) (x : Input) → IsOrdinary kit x section.now → result ≡ piece_of kit i x number section.now }
+/// The area of the sections of a class, a name and a type: that of the name, or else of the type, or else of a run, or else that of
+/// the ordinary pieces of the class.
+fn area_of(lines: &SectionLines<'_>, class: Class, name: &[u8], kind: u32) -> u32
+    ensures { (kit : Kit) → AreLines kit lines.now → result ≡ unwrap_or (named_area class name.now) (unwrap_or (typed_area class kind) (unwrap_or (run_area kit class name.now) (class_number class))) }
+{
+    if let Some(area) = named_area(class, name) {
+        return area;
+    }
+    if let Some(area) = typed_area(class, kind) {
+        return area;
+    }
+    match lines.run_area(class, name) {
+        Some(area) => area,
+        None => class_number(class),
+    }
+}
+
+/// The piece of section `number` of input `i`, which has this name.
+fn section_piece(
+    lines: &SectionLines<'_>,
+    i: u32,
+    number: u32,
+    section: &Section,
+    name: &[u8],
+) -> Piece
+    ensures { (kit : Kit) (x : Input) → AreLines kit lines.now → name.now ≡ text_at x.bytes section.now.name → result ≡ piece_of kit i x number section.now }
 {
     let class = class_of(section);
     Piece {
@@ -61,7 +89,7 @@ fn ordinary_piece(i: u32, number: u32, section: &Section) -> Piece
             section: number,
         },
         class,
-        area: class_number(class),
+        area: area_of(lines, class, name, section.kind),
         size: section.size,
         align: section.align.max(1),
         bytes: Range {
@@ -81,10 +109,13 @@ fn push_pieces(
     pieces: &mut Vec<Piece>,
     kit: &Kit,
     inputs: &[Input],
+    lines: &SectionLines<'_>,
+    removed: &RemovedTable,
     i: usize,
 ) -> Result<PieceTable, NoMemory>
     requires inputs { AreFit inputs.now }
-    requires simple { IsTrue (is_simple kit.now inputs.now) }
+    requires lines { AreLines kit.now lines.now }
+    requires removed { removed.now ≡ repeated_table inputs.now i }
     requires input { i < length inputs.now }
     requires before { pieces.old.items ≡ each (take i inputs.now) (input_pieces kit.now inputs.now) }
     ensures pieces { OnOk result (pieces.new.items ≡ each (take (i + 1) inputs.now) (input_pieces kit.now inputs.now)) }
@@ -94,9 +125,10 @@ fn push_pieces(
     let mut table = PieceTable::new(alloc);
     table.push(None)?;
     for (k, section) in input.object.sections.items().iter().enumerate() {
-        if is_kept(section) {
+        let name = input.text(section.name);
+        if is_kept(lines, section, name, removed.items()[k + 1]) {
             table.push(Some(pieces.len() as u32))?;
-            pieces.push(ordinary_piece(i as u32, k as u32 + 1, section))?;
+            pieces.push(section_piece(lines, i as u32, k as u32 + 1, section, name))?;
         } else {
             table.push(None)?;
         }
@@ -107,14 +139,18 @@ fn push_pieces(
 /// The pieces of all kept sections, by input and section number, and the table of each input.
 pub fn section_pieces(alloc: Global, kit: &Kit, inputs: &[Input]) -> Result<Pieced, NoMemory>
     requires inputs { AreFit inputs.now }
-    requires simple { IsTrue (is_simple kit.now inputs.now) }
+    requires drops { length kit.now.drops < KIT_TEXT_LIMIT }
+    requires runs { length kit.now.runs < KIT_TEXT_LIMIT }
     ensures pieces { IfOk result (λ p. p.pieces.items ≡ pieces_of_sections kit.now inputs.now) }
     ensures tables { IfOk result (λ p. p.tables.items ≡ piece_tables kit.now inputs.now) }
 {
+    let lines = SectionLines::new(alloc, kit)?;
+    let removed = removed_sections(alloc, inputs)?;
     let mut pieces = Vec::new(alloc);
     let mut tables = Vec::new(alloc);
     for i in 0..inputs.len() {
-        tables.push(push_pieces(alloc, &mut pieces, kit, inputs, i)?)?;
+        let table = push_pieces(alloc, &mut pieces, kit, inputs, &lines, &removed[i], i)?;
+        tables.push(table)?;
     }
     Ok(Pieced { pieces, tables })
 }

@@ -1,4 +1,4 @@
-use Rattle.std.proofs.Common.{refl, inl, inr}
+use Rattle.std.proofs.Common.{arith, refl, inl, inr}
 use Rattle.std.proofs.lemmas.List.{append-nil}
 use Rattle.std.proofs.lemmas.Result.{err_from_is_err_and}
 use Rattle.kl_model.specs.Graphs.{graph}
@@ -9,6 +9,12 @@ use Rattle.kl_sym.proofs.SimpleGraphs.{edges_known}
 use Rattle.kl_sym.proofs.SoundFields.{graph_sound}
 use Rattle.kl_sym.proofs.graph.resolve.Goals as goal
 use Rattle.kl_model.proofs.Kernels.{no_dynamic_names}
+
+pub section_pieces-requires-clause-drops : goal.section_pieces-requires-clause-drops
+section_pieces-requires-clause-drops c = let none = (simple_kit c.args.kit.now c.args.inputs.now c.requires.simple).drops in rw none (omega arith)
+
+pub section_pieces-requires-clause-runs : goal.section_pieces-requires-clause-runs
+section_pieces-requires-clause-runs c = let none = (simple_kit c.args.kit.now c.args.inputs.now c.requires.simple).runs in rw none (omega arith)
 
 pub returns-in_err-index-clause-err : goal.returns-in_err-index-clause-err
 returns-in_err-index-clause-err c =

@@ -1,4 +1,4 @@
-use Rattle.std.proofs.Common.{suc, ◌≡◌, ◌+◌, ◌<◌, ◌∙◌, ◌||◌, ◌++◌, ◌∷◌, [], length, get_or, take, ap, refl, sym, arith, take_all}
+use Rattle.std.proofs.Common.{suc, ◌≡◌, ◌+◌, ◌∙◌, ◌||◌, ◌++◌, ◌∷◌, [], length, take, ap, refl, sym, arith, take_all}
 use Rattle.std.specs.Str.{bytes_eq}
 use Rattle.std.proofs.Math.Seq.{take-suc}
 use Rattle.kl_model.specs.Lists.{among}

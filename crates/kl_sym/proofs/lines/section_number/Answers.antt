@@ -1,4 +1,4 @@
-use Rattle.std.proofs.Common.{◌≡◌, ◌≢◌, ◌∙◌, ◌+◌, ◌++◌, ◌∷◌, [], length, ap, refl, sym, arith, length-append}
+use Rattle.std.proofs.Common.{◌≡◌, ◌≢◌, ◌∙◌, ◌++◌, ◌∷◌, [], length, refl, sym, arith, length-append}
 use Rattle.std.specs.Prelude.{Some}
 use Rattle.kl_names.specs.Numbers.{place_in, with_name}
 use Rattle.kl_names.proofs.NameLists.{with_new}

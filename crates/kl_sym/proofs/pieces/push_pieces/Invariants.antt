@@ -3,7 +3,7 @@ use Rattle.std.specs.Prelude.{None}
 use Rattle.kl_model.specs.Lists.{each_from}
 use Rattle.kl_model.specs.Kept.{input_at}
 use Rattle.kl_model.specs.Graphs.{section_piece}
-use Rattle.kl_sym.specs.Tables.{piece_entry}
+use Rattle.kl_names.specs.Tables.{piece_entry}
 use Rattle.kl_sym.proofs.pieces.push_pieces.Given as goal
 
 abbrev pub invariant-loop-k : goal.invariant-loop-k

@@ -1,7 +1,7 @@
 use Rattle.std.proofs.Common.{◌≡◌, ◌∷◌, [], take}
 use Rattle.kl_model.specs.Lists.{each}
 use Rattle.kl_model.specs.Graphs.{input_pieces}
-use Rattle.kl_sym.specs.Tables.{piece_table}
+use Rattle.kl_names.specs.Tables.{piece_table}
 use Rattle.kl_sym.proofs.pieces.section_pieces.Given as goal
 
 abbrev pub invariant-loop-i : goal.invariant-loop-i

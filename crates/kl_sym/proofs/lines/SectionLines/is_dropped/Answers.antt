@@ -1,4 +1,4 @@
-use Rattle.std.proofs.Common.{ℕ, ◌≡◌, ◌∙◌, Bool, true, false, Some, None, Option, List, refl, ap, sym}
+use Rattle.std.proofs.Common.{ℕ, ◌≡◌, ◌∙◌, Some, None, Option, List, refl, ap, sym}
 use Rattle.std.specs.Prelude.{is_some}
 use Rattle.kl_model.specs.Lists.{among}
 use Rattle.kl_names.specs.Numbers.{place_in}
