@@ -3,11 +3,13 @@
 #![tactic(auto)]
 
 mod disk;
+mod failure;
 mod faults;
 mod notes;
 mod paths;
 mod store;
 mod streams;
 
+pub use failure::HostFailure;
 pub use store::HostStore;
 pub use streams::{HostEntropy, HostSink};
