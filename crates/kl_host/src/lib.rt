@@ -10,6 +10,5 @@ mod paths;
 mod store;
 mod streams;
 
-pub use failure::HostFailure;
 pub use store::HostStore;
 pub use streams::{HostEntropy, HostSink};

@@ -42,9 +42,20 @@ impl<R: Files + Drop> HostStore<R> {
         }
     }
 
-    /// The last call that the host refused, if it refused one.
-    pub fn failure(&self) -> Option<HostFailure> {
-        self.failure
+    /// The last call that the host refused, as its path below the starting folder and the host's words, if it refused one and there is
+    /// memory to tell it.
+    pub fn last_failure(&self, alloc: Global) -> Option<String> {
+        match &self.failure {
+            Some(failure) => told(alloc, failure),
+            None => None,
+        }
+    }
+}
+
+fn told(alloc: Global, failure: &HostFailure) -> Option<String> {
+    match failure.to_string(alloc) {
+        Ok(text) => Some(text),
+        Err(_) => None,
     }
 }
 
