@@ -29,6 +29,14 @@ is_built() {
         -type f \( -name '*.rt' -o -name '*.antt' -o -name crates.txt \) -newer "$built" -print -quit)" ]
 }
 
+# Passes on what the prover says of each crate that it has to prove.
+progress() {
+    awk '
+        /^rt: chose --jobs [0-9]+ for / { print "proving " $NF; fflush() }
+        /^so far: [1-9]/ { print "    " $3, $4, $5, $6, $7; fflush() }
+    '
+}
+
 # build_program PROGRAM: proves and builds it where that is needed, and copies it to build/PROGRAM. `rt run` also runs it, here
 # without words.
 build_program() {
@@ -36,9 +44,9 @@ build_program() {
     mkdir -p "$root/build"
     if ! is_built "$program"; then
         need rt
-        echo "proving and building $program, which takes some minutes the first time"
+        echo "proving and building $program, which takes about ten minutes the first time"
         rm -f "$built"
-        (cd "$root/crates/$program" && rt run --) >"$log" 2>&1 </dev/null || true
+        (cd "$root/crates/$program" && rt run --) 2>&1 </dev/null | tee "$log" | progress || true
         if [ ! -x "$built" ]; then
             tail -n 20 "$log" >&2
             fail "$program was not built: build/rt.log, which ends with the lines above, says why"

@@ -55,6 +55,14 @@ def files(kit):
     return {name: open(os.path.join(kit, name), "rb").read() for name in os.listdir(kit)}
 
 
+def is_told(said, status):
+    """Whether standard error has what is told of a status: nothing of 0, and else one line of the kit or its object."""
+    if status == 0:
+        return said == b""
+    lines = said.split(b"\n")
+    return len(lines) == 2 and lines[0].startswith(b"relink: ") and b"/kit/" in lines[0] and lines[0].isascii()
+
+
 def try_object(relink, conf, entry, bytes_):
     """What is wrong with relink's answer to the object, if anything, and the expected status."""
     status, why, image = expected.expected(bytes_, entry)
@@ -71,7 +79,7 @@ def try_object(relink, conf, entry, bytes_):
     wrong = []
     if run.returncode != status:
         wrong.append(f"status {run.returncode}, and not {status}: {why}")
-    if run.stdout or run.stderr:
+    if run.stdout or not is_told(run.stderr, status):
         wrong.append(f"it printed {run.stdout + run.stderr!r}")
     if others or {name: left[name] for name in left if not name.endswith(SCRATCH)} != given:
         wrong.append("it changed a file that is not its own")

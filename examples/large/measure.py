@@ -27,7 +27,7 @@ def main():
         times = []
         for _ in range(RUNS):
             start = time.perf_counter()
-            status = subprocess.run([relink, "link", "/kit"], cwd=folder).returncode
+            status = subprocess.run([relink, "link", "/kit"], cwd=folder, stderr=subprocess.DEVNULL).returncode
             times.append(1000 * (time.perf_counter() - start))
             failed |= status != wanted
         print(f"{what}: {len(content)} bytes, status {status}, {min(times):.0f} ms, in the middle {statistics.median(times):.0f} ms")

@@ -3,6 +3,7 @@
 #![tactic(auto)]
 
 pub mod abi;
+mod display;
 mod head;
 mod image;
 mod records;

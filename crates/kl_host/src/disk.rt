@@ -3,6 +3,7 @@ ghost use Rattle.std.specs.Prelude.{◌≡◌, ◌≤◌, length, true, false, I
 ghost use Rattle.kl_host.specs.Notes.{files_to_sync, folders_to_sync, is_among, is_broken, is_checked, is_known, is_relied_on, IsAsked, IsNoted, IsSettled, Keeps};
 ghost use Rattle.kl_host.specs.Disks.{notes_of};
 
+use crate::failure::{Done, HostFailure, Spot, on};
 use crate::notes::Notes;
 use crate::paths::{folder_path, is_same_folder, path, target_path};
 use kl_base::{Name, Slot};
@@ -35,25 +36,25 @@ impl<R: Files + Drop> Disk<R> {
     }
 
     // The length of the file, if it is there.
-    pub fn size(&mut self, name: &Name) -> io::Result<Option<u64>>
+    pub fn size(&mut self, name: &Name) -> Done<Option<u64>>
         ensures asked { OnOk result (IsAsked name.now (notes_of self.new)) }
         ensures keeps { Keeps (notes_of self.old) (notes_of self.new) }
     {
         self.ask(name)?;
-        self.length(name)
+        on(Spot::File(*name), self.length(name))
     }
 
     // Fills the buffer from the place on, as far as the file goes.
-    pub fn read(&mut self, name: &Name, at: u64, buf: &mut [u8]) -> io::Result<usize>
+    pub fn read(&mut self, name: &Name, at: u64, buf: &mut [u8]) -> Done<usize>
         ensures bound { IfOk result (λ n. n ≤ length buf.old) }
         ensures asked { OnOk result (IsAsked name.now (notes_of self.new)) }
         ensures keeps { Keeps (notes_of self.old) (notes_of self.new) }
     {
         self.ask(name)?;
-        if self.length(name)?.is_none() || at > i64::MAX as u64 {
+        if on(Spot::File(*name), self.length(name))?.is_none() || at > i64::MAX as u64 {
             return Ok(0);
         }
-        self.read_at(name, at, buf)
+        on(Spot::File(*name), self.read_at(name, at, buf))
     }
 
     fn read_at(&self, name: &Name, at: u64, buf: &mut [u8]) -> io::Result<usize>
@@ -74,7 +75,7 @@ impl<R: Files + Drop> Disk<R> {
 
     // Puts a new empty file under the name. A file that has the name is never cut short: the new one is
     // made beside it and renamed over it, so that the name holds the one or the other at every moment.
-    pub fn create(&mut self, name: &Name) -> io::Result<()>
+    pub fn create(&mut self, name: &Name) -> Done<()>
         ensures noted { OnOk result (IsNoted name.now (notes_of self.new)) }
         ensures asked { OnOk result (IsAsked name.now (notes_of self.new)) }
         ensures keeps { Keeps (notes_of self.old) (notes_of self.new) }
@@ -82,7 +83,7 @@ impl<R: Files + Drop> Disk<R> {
         self.ask(name)?;
         self.make_folders(name)?;
         self.notes.note_file(name)?;
-        self.make(name)
+        on(Spot::File(*name), self.make(name))
     }
 
     fn make(&self, name: &Name) -> io::Result<()> {
@@ -105,7 +106,7 @@ impl<R: Files + Drop> Disk<R> {
     }
 
     // Adds the bytes at the file's end, in place. An absent file is created first.
-    pub fn append(&mut self, name: &Name, bytes: &[u8]) -> io::Result<()>
+    pub fn append(&mut self, name: &Name, bytes: &[u8]) -> Done<()>
         ensures noted { OnOk result (is_among name.now (files_to_sync (notes_of self.new)) ≡ true) }
         ensures asked { OnOk result (IsAsked name.now (notes_of self.new)) }
         ensures keeps { Keeps (notes_of self.old) (notes_of self.new) }
@@ -114,12 +115,16 @@ impl<R: Files + Drop> Disk<R> {
             self.create(name)?;
         }
         self.notes.note_bytes(name)?;
+        on(Spot::File(*name), self.write_at_end(name, bytes))
+    }
+
+    fn write_at_end(&self, name: &Name, bytes: &[u8]) -> io::Result<()> {
         let mut file = OpenOptions::new().append(true).open(&self.rt, path(name))?;
         file.write_all(bytes)
     }
 
     // Gives the file the new name, and says whether it was there.
-    pub fn rename(&mut self, from: &Name, to: &Name) -> io::Result<bool>
+    pub fn rename(&mut self, from: &Name, to: &Name) -> Done<bool>
         ensures noted { IfOk result (λ was. was ≡ true → IsNoted to.now (notes_of self.new)) }
         ensures away { IfOk result (λ was. was ≡ true → is_among from.now (folders_to_sync (notes_of self.new)) ≡ true) }
         ensures asked { OnOk result (IsAsked from.now (notes_of self.new)) }
@@ -133,7 +138,7 @@ impl<R: Files + Drop> Disk<R> {
         self.make_folders(to)?;
         self.notes.note_folder(from)?;
         self.notes.note_file(to)?;
-        self.give_name(from, to)?;
+        on(Spot::File(*to), self.give_name(from, to))?;
         Ok(true)
     }
 
@@ -149,26 +154,27 @@ impl<R: Files + Drop> Disk<R> {
     }
 
     // Removes the file, and says whether it was there.
-    pub fn remove(&mut self, name: &Name) -> io::Result<bool>
+    pub fn remove(&mut self, name: &Name) -> Done<bool>
         ensures noted { OnOk result (is_among name.now (folders_to_sync (notes_of self.new)) ≡ true) }
         ensures asked { OnOk result (IsAsked name.now (notes_of self.new)) }
         ensures keeps { Keeps (notes_of self.old) (notes_of self.new) }
     {
         self.ask(name)?;
         self.notes.note_folder(name)?;
-        Ok(found(fs::remove_file(&self.rt, path(name)))?.is_some())
+        let removed = found(fs::remove_file(&self.rt, path(name)));
+        Ok(on(Spot::File(*name), removed)?.is_some())
     }
 
     // Syncs each file that was written and is still there, and then each folder in which a name was changed. A sync that
     // failed is never made again, since the next one might succeed although the bytes are lost.
-    pub fn settle(&mut self) -> io::Result<()>
+    pub fn settle(&mut self) -> Done<()>
         ensures settled { OnOk result (IsSettled (notes_of self.new)) }
         ensures whole { OnOk result (is_broken (notes_of self.old) ≡ false) }
         ensures broken { OnErr result (is_broken (notes_of self.new) ≡ true) }
         ensures keeps { OnErr result (Keeps (notes_of self.old) (notes_of self.new)) }
     {
         if self.notes.is_broken() {
-            return Err(Error::from(ErrorKind::Other));
+            return Err(HostFailure::of_kind(ErrorKind::Other));
         }
         match self.sync_noted() {
             Ok(()) => {
@@ -182,9 +188,9 @@ impl<R: Files + Drop> Disk<R> {
         }
     }
 
-    fn sync_noted(&self) -> io::Result<()> {
+    fn sync_noted(&self) -> Done<()> {
         for name in self.notes.written() {
-            self.sync_file(path(name))?;
+            on(Spot::File(*name), self.sync_file(path(name)))?;
         }
         let changed = self.notes.changed();
         for (number, name) in changed.iter().enumerate() {
@@ -192,7 +198,7 @@ impl<R: Files + Drop> Disk<R> {
                 .iter()
                 .any(|earlier| is_same_folder(earlier, name))
             {
-                self.sync_folder(name)?;
+                on(Spot::Folder(*name), self.sync_folder(name))?;
             }
         }
         Ok(())
@@ -200,7 +206,7 @@ impl<R: Files + Drop> Disk<R> {
 
     // An earlier process may have left changes that aren't synced. So whatever is asked of a name, its folder and those
     // above it are synced first, and the file too where its bytes will be relied on.
-    fn ask(&mut self, name: &Name) -> io::Result<()>
+    fn ask(&mut self, name: &Name) -> Done<()>
         ensures asked { OnOk result (IsAsked name.now (notes_of self.new)) }
         ensures keeps { Keeps (notes_of self.old) (notes_of self.new) }
     {
@@ -209,7 +215,7 @@ impl<R: Files + Drop> Disk<R> {
         self.ask_file(name)
     }
 
-    fn ask_folders(&mut self, name: &Name) -> io::Result<()>
+    fn ask_folders(&mut self, name: &Name) -> Done<()>
         ensures keeps { Keeps (notes_of self.old) (notes_of self.new) }
     {
         if self.notes.knows(name) {
@@ -228,14 +234,14 @@ impl<R: Files + Drop> Disk<R> {
     }
 
     // Syncs the folder of the name, once.
-    fn ask_folder(&mut self, name: &Name) -> io::Result<()>
+    fn ask_folder(&mut self, name: &Name) -> Done<()>
         ensures known { OnOk result (is_known name.now (notes_of self.new) ≡ true) }
         ensures keeps { Keeps (notes_of self.old) (notes_of self.new) }
     {
         if self.notes.knows(name) {
             return Ok(());
         }
-        if let Err(e) = self.sync_folder(name) {
+        if let Err(e) = on(Spot::Folder(*name), self.sync_folder(name)) {
             self.notes.break_off();
             return Err(e);
         }
@@ -244,7 +250,7 @@ impl<R: Files + Drop> Disk<R> {
     }
 
     // Syncs the file of a scratch name and the one whose temporary it is, or the file of a slot, once.
-    fn ask_file(&mut self, name: &Name) -> io::Result<()>
+    fn ask_file(&mut self, name: &Name) -> Done<()>
         ensures checked { OnOk result (is_relied_on name.now ≡ true → is_checked name.now (notes_of self.new) ≡ true) }
         ensures keeps { Keeps (notes_of self.old) (notes_of self.new) }
     {
@@ -259,11 +265,11 @@ impl<R: Files + Drop> Disk<R> {
         Ok(())
     }
 
-    fn sync_pair(&self, name: &Name) -> io::Result<()> {
+    fn sync_pair(&self, name: &Name) -> Done<()> {
         if let Some(target) = target_path(name) {
-            self.sync_file(target)?;
+            on(Spot::Target(*name), self.sync_file(target))?;
         }
-        self.sync_file(path(name))
+        on(Spot::File(*name), self.sync_file(path(name)))
     }
 
     // Syncs the regular file of the path, if there is one.
@@ -288,12 +294,13 @@ impl<R: Files + Drop> Disk<R> {
         match found(fs::metadata(&self.rt, path(name)))? {
             None => Ok(None),
             Some(data) if data.is_file() => Ok(Some(data.len())),
-            Some(_) => Err(Error::from(ErrorKind::IsADirectory)),
+            Some(data) if data.is_dir() => Err(Error::from(ErrorKind::IsADirectory)),
+            Some(_) => Err(Error::other("not a regular file")),
         }
     }
 
     // Makes the missing folders of the name, the outermost first.
-    fn make_folders(&mut self, name: &Name) -> io::Result<()>
+    fn make_folders(&mut self, name: &Name) -> Done<()>
         ensures keeps { Keeps (notes_of self.old) (notes_of self.new) }
     {
         let bytes = name.bytes();
@@ -308,14 +315,15 @@ impl<R: Files + Drop> Disk<R> {
         Ok(())
     }
 
-    fn make_folder(&mut self, folder: &Name) -> io::Result<()>
+    fn make_folder(&mut self, folder: &Name) -> Done<()>
         ensures keeps { Keeps (notes_of self.old) (notes_of self.new) }
     {
-        if found(fs::metadata(&self.rt, path(folder)))?.is_some() {
+        let data = found(fs::metadata(&self.rt, path(folder)));
+        if on(Spot::File(*folder), data)?.is_some() {
             return Ok(());
         }
         self.notes.note_folder(folder)?;
-        fs::create_dir(&self.rt, path(folder))
+        on(Spot::File(*folder), fs::create_dir(&self.rt, path(folder)))
     }
 }
 

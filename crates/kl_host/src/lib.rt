@@ -3,6 +3,7 @@
 #![tactic(auto)]
 
 mod disk;
+mod failure;
 mod faults;
 mod notes;
 mod paths;

@@ -7,6 +7,7 @@ ghost use Rattle.kl_host.specs.Notes.{files_to_sync, folders_to_sync, is_among, 
 ghost use Rattle.kl_host.specs.Disks.{notes};
 
 use crate::disk::Disk;
+use crate::failure::{HostFailure, kept};
 use crate::faults::counted;
 use kl_base::Name;
 use kl_store::{Failed, Store};
@@ -25,6 +26,8 @@ use std::rt::Files;
 pub struct HostStore<R: Files + Drop> {
     disk: Disk<R>,
     faults: u64,
+    // the last call that the host refused
+    failure: Option<HostFailure>,
 }
 
 impl<R: Files + Drop> HostStore<R> {
@@ -35,7 +38,24 @@ impl<R: Files + Drop> HostStore<R> {
         HostStore {
             disk: Disk::new(rt, alloc),
             faults: 0,
+            failure: None,
         }
+    }
+
+    /// The last call that the host refused, as its path below the starting folder and the host's words, if it refused one and there is
+    /// memory to tell it.
+    pub fn last_failure(&self, alloc: Global) -> Option<String> {
+        match &self.failure {
+            Some(failure) => told(alloc, failure),
+            None => None,
+        }
+    }
+}
+
+fn told(alloc: Global, failure: &HostFailure) -> Option<String> {
+    match failure.to_string(alloc) {
+        Ok(text) => Some(text),
+        Err(_) => None,
     }
 }
 
@@ -51,7 +71,7 @@ impl<R: Files + Drop> Store for HostStore<R> {
         ensures asked { OnOk result (IsAsked name.now (notes self.new)) }
         ensures keeps { Keeps (notes self.old) (notes self.new) }
     {
-        let done = self.disk.size(name);
+        let done = kept(&mut self.failure, self.disk.size(name));
         counted(&mut self.faults, done)
     }
 
@@ -63,7 +83,7 @@ impl<R: Files + Drop> Store for HostStore<R> {
         ensures asked { OnOk result (IsAsked name.now (notes self.new)) }
         ensures keeps { Keeps (notes self.old) (notes self.new) }
     {
-        let done = self.disk.read(name, at, buf);
+        let done = kept(&mut self.failure, self.disk.read(name, at, buf));
         counted(&mut self.faults, done)
     }
 
@@ -74,7 +94,7 @@ impl<R: Files + Drop> Store for HostStore<R> {
         ensures asked { OnOk result (IsAsked name.now (notes self.new)) }
         ensures keeps { Keeps (notes self.old) (notes self.new) }
     {
-        let done = self.disk.create(name);
+        let done = kept(&mut self.failure, self.disk.create(name));
         counted(&mut self.faults, done)
     }
 
@@ -85,7 +105,7 @@ impl<R: Files + Drop> Store for HostStore<R> {
         ensures asked { OnOk result (IsAsked name.now (notes self.new)) }
         ensures keeps { Keeps (notes self.old) (notes self.new) }
     {
-        let done = self.disk.append(name, bytes);
+        let done = kept(&mut self.failure, self.disk.append(name, bytes));
         counted(&mut self.faults, done)
     }
 
@@ -99,7 +119,7 @@ impl<R: Files + Drop> Store for HostStore<R> {
         ensures asked_to { IfOk result (λ was. was ≡ true → IsAsked to.now (notes self.new)) }
         ensures keeps { Keeps (notes self.old) (notes self.new) }
     {
-        let done = self.disk.rename(from, to);
+        let done = kept(&mut self.failure, self.disk.rename(from, to));
         counted(&mut self.faults, done)
     }
 
@@ -110,7 +130,7 @@ impl<R: Files + Drop> Store for HostStore<R> {
         ensures asked { OnOk result (IsAsked name.now (notes self.new)) }
         ensures keeps { Keeps (notes self.old) (notes self.new) }
     {
-        let done = self.disk.remove(name);
+        let done = kept(&mut self.failure, self.disk.remove(name));
         counted(&mut self.faults, done)
     }
 
@@ -124,7 +144,7 @@ impl<R: Files + Drop> Store for HostStore<R> {
         ensures broken { OnErr result (is_broken (notes self.new) ≡ true) }
         ensures keeps { OnErr result (Keeps (notes self.old) (notes self.new)) }
     {
-        let done = self.disk.settle();
+        let done = kept(&mut self.failure, self.disk.settle());
         counted(&mut self.faults, done)
     }
 }

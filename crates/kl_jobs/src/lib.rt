@@ -2,6 +2,7 @@
 #![tactic(auto)]
 
 mod cause;
+mod display;
 mod files;
 mod input;
 mod link;

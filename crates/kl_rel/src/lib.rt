@@ -8,6 +8,7 @@ ghost use Rattle.kl_rel.specs.Flaws.{IsAnswer};
 ghost use Rattle.kl_rel.specs.Objects.{flaw, object};
 ghost use Rattle.kl_base.specs.declared.limits.TheConstants.{INPUT_LIMIT};
 
+mod display;
 mod fault;
 mod field;
 mod group;

@@ -4,6 +4,8 @@
 ghost use Rattle.std.specs.Prelude.{◌≡◌};
 ghost use Rattle.std.specs.Process.{exit_status};
 
+mod messages;
+
 use kl_cli::{Exit, run};
 use kl_host::{HostEntropy, HostSink, HostStore};
 use kl_jobs::Cause;
@@ -14,16 +16,26 @@ use std::rt::Env;
 
 fn main(rt: HostRuntime) -> ExitCode {
     let alloc = rt.alloc();
-    let words = match words_after_name(&rt) {
-        Ok(words) => words,
-        Err(e) if e.kind() == ErrorKind::OutOfMemory => return code_of(&Exit::of(Cause::NoMemory)),
+    let (words, is_text) = match words_after_name(&rt) {
+        Ok(words) => (words, true),
+        Err(e) if e.kind() == ErrorKind::OutOfMemory => {
+            messages::tell_no_memory(&rt);
+            return code_of(&Exit::of(Cause::NoMemory));
+        }
         // a word that isn't UTF-8 is no command
-        Err(_) => Vec::new(alloc),
+        Err(_) => (Vec::new(alloc), false),
     };
     let mut store = HostStore::new(&rt, alloc);
     let mut entropy = HostEntropy::new(&rt);
     let mut out = HostSink::new(&rt);
-    code_of(&run(alloc, &words, &mut store, &mut entropy, &mut out))
+    let exit = run(alloc, &words, &mut store, &mut entropy, &mut out);
+    let told = if is_text {
+        Some(words.as_slice())
+    } else {
+        None
+    };
+    messages::tell(&rt, told, &exit.cause, &mut store);
+    code_of(&exit)
 }
 
 /// The status of the process.

@@ -1,0 +1,50 @@
+// The words of causes. Inputs have numbers here: who has the kit text can tell their names.
+use crate::cause::{Cause, KitCause, ObjectCause, TotalOf};
+use kl_base::{FIELD_COUNT_LIMIT, SECTION_COUNT_LIMIT, SYMBOL_COUNT_LIMIT};
+use std::fmt;
+
+impl fmt::Display for TotalOf {
+    fn fmt<W: fmt::Write>(&self, f: &mut fmt::Formatter<W>) -> fmt::Result {
+        match self {
+            TotalOf::Sections => write!(f, "more than {SECTION_COUNT_LIMIT} sections"),
+            TotalOf::Symbols => write!(f, "more than {SYMBOL_COUNT_LIMIT} symbols"),
+            TotalOf::Fields => write!(f, "more than {FIELD_COUNT_LIMIT} relocations"),
+        }
+    }
+}
+
+impl fmt::Display for KitCause {
+    fn fmt<W: fmt::Write>(&self, f: &mut fmt::Formatter<W>) -> fmt::Result {
+        match self {
+            KitCause::Absent(_) => f.write_str("a file of the kit is absent"),
+            KitCause::TooLong(_) => f.write_str("a file of the kit is longer than its limit"),
+            KitCause::Total { what, line } => write!(
+                f,
+                "line {line}: with this input the kit has {what}"
+            ),
+        }
+    }
+}
+
+impl fmt::Display for ObjectCause {
+    fn fmt<W: fmt::Write>(&self, f: &mut fmt::Formatter<W>) -> fmt::Result {
+        match self {
+            ObjectCause::Elf(fault) => write!(f, "{fault}"),
+        }
+    }
+}
+
+impl fmt::Display for Cause {
+    fn fmt<W: fmt::Write>(&self, f: &mut fmt::Formatter<W>) -> fmt::Result {
+        match self {
+            Cause::Done => f.write_str("done"),
+            Cause::Usage => f.write_str("the words are no command"),
+            Cause::NoMemory => f.write_str("out of memory"),
+            Cause::Store => f.write_str("a call on the disk failed"),
+            Cause::Kit(cause) => write!(f, "{cause}"),
+            Cause::Object { line, fault, .. } => write!(f, "the object of line {line}: {fault}"),
+            Cause::Link(fault) => write!(f, "{fault}"),
+            Cause::NotYet => f.write_str("the kit is of a form that isn't linked yet"),
+        }
+    }
+}
