@@ -1,0 +1,11 @@
+//! Tests of kit texts: what is read of them, and the first fault.
+#![tactic(auto)]
+
+#[cfg(test)]
+mod faults;
+#[cfg(test)]
+mod kits;
+#[cfg(test)]
+mod sizes;
+#[cfg(test)]
+mod texts;
