@@ -6,6 +6,8 @@ mod faults;
 #[cfg(test)]
 mod kits;
 #[cfg(test)]
+mod prints;
+#[cfg(test)]
 mod sizes;
 #[cfg(test)]
 mod texts;
