@@ -1,5 +1,5 @@
 -- The forms of the words in a kit text.
-use Rattle.std.specs.Prelude.{ℕ, ◌+◌, ◌*◌, ◌%◌, Bool, true, false, not, ◌&&◌, ◌||◌, ◌==◌, nat_le, nat_lt, nat_eq, if◌then◌else◌, List, ◌++◌, find, fold, length, codes, is_none, Option, Some, None}
+use Rattle.std.specs.Prelude.{ℕ, ◌≡◌, ◌+◌, ◌*◌, ◌%◌, Bool, true, false, not, ◌&&◌, ◌||◌, ◌==◌, nat_le, nat_lt, nat_eq, if◌then◌else◌, List, ◌++◌, find, fold, length, codes, is_none, Option, Some, None}
 use Rattle.std.specs.Str.{bytes_eq}
 use Rattle.std.specs.Option.{option_map, option_and_then}
 use Rattle.std.specs.List.{list_all, ends_with, starts_with}
@@ -10,6 +10,7 @@ use Rattle.kl_base.specs.declared.limits.TheConstants.{BASE_LIMIT, FILE_LIMIT, O
 use Rattle.hex.specs.Hex.{hex_digit_value}
 use Rattle.kl_text.specs.Lines.{after_prefix}
 use Rattle.kl_model.specs.Areas.{areas}
+use Rattle.kl_model.specs.declared.kit.KitInput.{KitInput}
 use Rattle.kl_model.specs.declared.kit.KitKind.{KitKind}
 use Rattle.kl_model.specs.declared.kit.KitKind.TheVariants.{Kernel, Library}
 use Rattle.kl_kit.specs.declared.form.TheConstants.{BASE_DIGITS, RADIX}
@@ -30,6 +31,10 @@ abbrev pub is_file : List ℕ → Bool
 is_file file =
     nat_le (length file) FILE_LIMIT && is_none (name_fault (codes "/" ++ file))
     && not (bytes_eq file (codes "link.conf")) && not (ends_with nat_eq file SCRATCH_SUFFIX)
+
+-- an input's file is in its form
+abbrev pub HasFile : KitInput → Type 0
+HasFile input = is_file input.file ≡ true
 
 abbrev pub file_of : List ℕ → Option (List ℕ)
 file_of word = word_if (is_file word) word
