@@ -8,7 +8,7 @@ use Rattle.kl_base.proofs.Bools.{and_left, and_right}
 use Rattle.kl_text.specs.Lines.{after_prefix}
 use Rattle.kl_base.specs.declared.limits.TheConstants.{BASE_LIMIT, PAGE}
 use Rattle.kl_model.specs.Lists.{only_if}
-use Rattle.kl_model.specs.Kits.{is_empty, is_kernel}
+use Rattle.kl_model.specs.Kits.{is_kernel}
 use Rattle.kl_model.specs.Fit.{IsKernelKit}
 use Rattle.kl_model.specs.declared.kit.Kit.{Kit}
 use Rattle.kl_model.specs.declared.kit.KitKind.{KitKind}
@@ -19,9 +19,8 @@ use Rattle.kl_model.specs.declared.object.Part.TheVariants.{Head, Drawn, Tail}
 use Rattle.kl_model.specs.declared.kit.Run.{Run}
 use Rattle.kl_model.specs.declared.kit.EdgeLine.{EdgeLine}
 use Rattle.kl_kit.specs.KitLines.{KitLine, edge_of, line_statement, run_of, statement_of, statements, word_at}
-use Rattle.kl_kit.specs.KitTexts.{base_said, default_base, entry_said, input_said, is_kernel_kit, kind_said, kit_of_statements, last, many, missing, one, output_said}
+use Rattle.kl_kit.specs.KitTexts.{base_said, default_base, entry_said, is_kernel_kit, kind_said, kit_of_statements, last, many, missing, one}
 use Rattle.kl_kit.specs.declared.fault.KitError.{KitError}
-use Rattle.kl_kit.specs.declared.fault.Needed.{Needed}
 use Rattle.kl_kit.specs.declared.fault.Needed.TheVariants as needed
 use Rattle.kl_kit.specs.declared.keyword.Keyword.{Keyword}
 use Rattle.kl_kit.specs.declared.keyword.Keyword.TheVariants as keyword

@@ -1,3 +1,4 @@
+mod InputFiles
 mod KernelKits
 mod LineFaults
 mod Numbers

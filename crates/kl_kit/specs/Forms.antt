@@ -1,5 +1,5 @@
 -- The forms of the words in a kit text.
-use Rattle.std.specs.Prelude.{ℕ, ◌+◌, ◌-◌, ◌*◌, ◌%◌, Bool, true, false, not, ◌&&◌, ◌||◌, ◌==◌, nat_le, nat_lt, nat_eq, if◌then◌else◌, List, ◌++◌, find, fold, length, codes, is_none, Option, Some, None}
+use Rattle.std.specs.Prelude.{ℕ, ◌≡◌, ◌+◌, ◌*◌, ◌%◌, Bool, true, false, not, ◌&&◌, ◌||◌, ◌==◌, nat_le, nat_lt, nat_eq, if◌then◌else◌, List, ◌++◌, find, fold, length, codes, is_none, Option, Some, None}
 use Rattle.std.specs.Str.{bytes_eq}
 use Rattle.std.specs.Option.{option_map, option_and_then}
 use Rattle.std.specs.List.{list_all, ends_with, starts_with}
@@ -7,11 +7,13 @@ use Rattle.kl_base.specs.Names.{name_fault, is_path_byte}
 use Rattle.kl_base.specs.declared.class.Class.{Class}
 use Rattle.kl_base.specs.declared.class.Class.TheVariants.{Text, Rodata, Rwdata, Bss}
 use Rattle.kl_base.specs.declared.limits.TheConstants.{BASE_LIMIT, FILE_LIMIT, OUTPUT_LIMIT, PAGE, SCRATCH_SUFFIX, WORD_LIMIT}
+use Rattle.hex.specs.Hex.{hex_digit_value}
 use Rattle.kl_text.specs.Lines.{after_prefix}
 use Rattle.kl_model.specs.Areas.{areas}
+use Rattle.kl_model.specs.declared.kit.KitInput.{KitInput}
 use Rattle.kl_model.specs.declared.kit.KitKind.{KitKind}
 use Rattle.kl_model.specs.declared.kit.KitKind.TheVariants.{Kernel, Library}
-use Rattle.kl_kit.specs.declared.form.TheConstants.{BASE_DIGITS}
+use Rattle.kl_kit.specs.declared.form.TheConstants.{BASE_DIGITS, RADIX}
 
 -- the word, where it passes the test
 abbrev pub word_if : Bool → List ℕ → Option (List ℕ)
@@ -29,6 +31,10 @@ abbrev pub is_file : List ℕ → Bool
 is_file file =
     nat_le (length file) FILE_LIMIT && is_none (name_fault (codes "/" ++ file))
     && not (bytes_eq file (codes "link.conf")) && not (ends_with nat_eq file SCRATCH_SUFFIX)
+
+-- an input's file is in its form
+abbrev pub HasFile : KitInput → Type 0
+HasFile input = is_file input.file ≡ true
 
 abbrev pub file_of : List ℕ → Option (List ℕ)
 file_of word = word_if (is_file word) word
@@ -69,17 +75,9 @@ refuse_of word =
     else if bytes_eq word (codes "allow") then Some false
     else None
 
--- the value of a hexadecimal digit of either case: 0 to 9, a to f, A to F
-abbrev pub digit_of : ℕ → Option ℕ
-digit_of byte =
-    if nat_le 48 byte && nat_le byte 57 then Some (byte - 48)
-    else if nat_le 97 byte && nat_le byte 102 then Some (byte - 87)
-    else if nat_le 65 byte && nat_le byte 70 then Some (byte - 55)
-    else None
-
--- the number of digits with one more behind them
+-- the number of hexadecimal digits of either case with one more behind them
 abbrev pub with_digit : Option ℕ → ℕ → Option ℕ
-with_digit number byte = option_and_then (λ n. option_map (λ d. 16 * n + d) (digit_of byte)) number
+with_digit number byte = option_and_then (λ n. option_map (λ d. RADIX * n + d) (hex_digit_value byte)) number
 
 -- the number of hexadecimal digits
 abbrev pub number_of : List ℕ → Option ℕ

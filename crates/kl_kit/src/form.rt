@@ -2,7 +2,8 @@
 ghost use Rattle.std.specs.Prelude.{◌≡◌, ◌≤◌, ◌&&◌, find, length, IfOk, IfSome};
 ghost use Rattle.std.specs.Option.{option_copied};
 ghost use Rattle.std.specs.Str.{bytes_eq};
-ghost use Rattle.kl_kit.specs.Forms.{area_of, base_if, base_of, class_of, digit_of, digits_number, end_of, file_of, is_file, is_kernel_output, is_reserved, is_word, kind_of, name_of, number_of, refuse_of, word_of};
+ghost use Rattle.hex.specs.Hex.{hex_digit_value};
+ghost use Rattle.kl_kit.specs.Forms.{area_of, base_if, base_of, class_of, digits_number, end_of, file_of, is_file, is_kernel_output, is_reserved, is_word, kind_of, name_of, number_of, refuse_of, word_of};
 
 use kl_base::{
     BASE_LIMIT, Class, FILE_LIMIT, Name, NoMemory, OUTPUT_LIMIT, PAGE, SCRATCH_SUFFIX, WORD_LIMIT,
@@ -13,6 +14,9 @@ use std::alloc::Global;
 
 /// How many hexadecimal digits a base has at most.
 pub(crate) const BASE_DIGITS: usize = 16;
+
+/// The base of hexadecimal numbers.
+pub(crate) const RADIX: u64 = 16;
 
 /// The word, where it is a SYMBOL, SECTION or TEXT.
 pub(crate) fn word_of(alloc: Global, word: &[u8]) -> Result<Option<Word>, NoMemory>
@@ -158,14 +162,14 @@ fn number_of(digits: &[u8]) -> Option<u64>
 {
     let mut number = 0;
     for digit in digits {
-        number = 16 * number + digit_of(*digit)? as u64;
+        number = RADIX * number + digit_of(*digit)? as u64;
     }
     Some(number)
 }
 
 /// The value of a hexadecimal digit.
 fn digit_of(byte: u8) -> Option<u8>
-    ensures value { result ≡ digit_of byte }
+    ensures value { result ≡ hex_digit_value byte }
     ensures small { IfSome result (λ d. d ≤ 15) }
 {
     match byte {

@@ -7,8 +7,10 @@ mod key;
 mod keyword;
 mod line;
 mod parts;
+mod print;
 mod read;
 mod statement;
 
 pub use fault::{KitError, KitFault, Needed};
+pub use print::print_kit;
 pub use read::read_kit;

@@ -1,9 +1,11 @@
 // The reader of kit texts.
 ghost use Rattle.std.specs.Prelude.{◌≡◌, ◌≤◌, ◌++◌, ◌∷◌, [], List, length, map, slice_get, option_to_list, IfOk, IfErr, OnOk};
 ghost use Rattle.std.specs.Result.{result_err};
+ghost use Rattle.std.specs.List.{AllByRecursion};
 ghost use Rattle.kl_text.specs.Lines.{words};
 ghost use Rattle.kl_model.specs.Fit.{IsKernelKit};
 ghost use Rattle.kl_model.specs.declared.kit.KitKind.TheVariants.{Kernel};
+ghost use Rattle.kl_kit.specs.Forms.{HasFile};
 ghost use Rattle.kl_kit.specs.KitLines.{KitLine, line_of};
 ghost use Rattle.kl_kit.specs.KitTexts.{kit_faults, kit_of, kit_of_statements, line_faults, missing, output_faults, place_faults, said_faults};
 ghost use Rattle.kl_kit.specs.Readers.{HasRead, IsFirst, parts_of, said_line, stands_at};
@@ -30,6 +32,7 @@ pub fn read_kit(alloc: Global, text: &[u8]) -> Result<Kit, KitError>
     requires { length text.now ≤ KIT_TEXT_LIMIT }
     ensures kit { IfOk result (λ kit. kit ≡ kit_of text.now) }
     ensures sound { OnOk result (kit_faults text.now ≡ []) }
+    ensures files { IfOk result (λ kit. AllByRecursion HasFile kit.inputs) }
     ensures kernel { IfOk result (λ kit. kit.kind ≡ Kernel → IsKernelKit kit) }
     ensures fault { IfErr result (IsFirst (kit_faults text.now)) }
 {

@@ -2,6 +2,7 @@ use Rattle.std.proofs.Common.{◌≤◌, ◌∙◌, length, take, sym, ap, arith
 use Rattle.kl_text.specs.Lines.{lines}
 use Rattle.kl_kit.specs.KitLines.{said, statements}
 use Rattle.kl_kit.specs.KitTexts.{kit_faults, kit_of, missing}
+use Rattle.kl_kit.proofs.InputFiles.{files_read}
 use Rattle.kl_kit.proofs.KernelKits.{kernel_read}
 use Rattle.kl_kit.proofs.Reading.{all_read, all_said, empty_is, faults_end, handed_on, line_first, next_at, none_missing, said_more, sound_more}
 use Rattle.kl_kit.proofs.read.read_kit.Goals as goal
@@ -46,6 +47,11 @@ returns-clause-sound c =
     rw (faults_end text i end c.loop-rest.invariant.sound)
     (none_missing (missing (statements (said (lines text)))) c.kit.result
     (rw (all_said text i end) at (c.kit.ensures.sound (statements (said (take i (lines text)))) c.loop-rest.invariant.read.parts)))
+
+pub returns-clause-files : goal.returns-clause-files
+returns-clause-files c =
+    let ls = said (take c.loop-rest.number (lines c.args.text.now)) in
+    files_read ls c.kit.result (c.kit.ensures.kit (statements ls) c.loop-rest.invariant.read.parts)
 
 pub returns-clause-kernel : goal.returns-clause-kernel
 returns-clause-kernel c =

@@ -1,0 +1,13 @@
+//! Tests of kit texts: what is read of them, and the first fault.
+#![tactic(auto)]
+
+#[cfg(test)]
+mod faults;
+#[cfg(test)]
+mod kits;
+#[cfg(test)]
+mod prints;
+#[cfg(test)]
+mod sizes;
+#[cfg(test)]
+mod texts;
