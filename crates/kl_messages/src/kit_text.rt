@@ -26,8 +26,8 @@ const LATER: [&[u8]; 11] = [
 /// Tells the first line that isn't of the four that are read: its number, and what stands there.
 pub fn tell_kit_text(text: &mut String, kit_text: &[u8]) -> Result<(), NoMemory> {
     let mut rest = kit_text;
-    for (place, wanted) in LINES.iter().enumerate() {
-        let number = place + 1;
+    for (index, wanted) in LINES.iter().enumerate() {
+        let number = index + 1;
         if rest.is_empty() {
             write!(
                 text,
@@ -40,9 +40,9 @@ pub fn tell_kit_text(text: &mut String, kit_text: &[u8]) -> Result<(), NoMemory>
             write!(text, "line {number}: '{line}' isn't ended by a newline")?;
             return Ok(());
         };
-        if !is_read(place, line) {
+        if !is_read(index, line) {
             write!(text, "line {number}: ")?;
-            return tell_line(text, place, wanted, line);
+            return tell_line(text, index, wanted, line);
         }
         rest = after;
     }
