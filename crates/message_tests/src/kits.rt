@@ -58,8 +58,17 @@ pub fn words_of(alloc: Global, line: &[u8]) -> Result<Vec<Vec<u8>>, Fail> {
 /// What is told of a cause of `link /kit` in the folder `/somewhere`.
 pub fn told(alloc: Global, cause: &Cause, store: &mut MemStore) -> Result<String, Fail> {
     let words = words_of(alloc, b"link|/kit")?;
+    told_of_words(alloc, &words, cause, store)
+}
+
+fn told_of_words<'a>(
+    alloc: Global,
+    words: &'a [Vec<u8>],
+    cause: &'a Cause,
+    store: &mut MemStore,
+) -> Result<String, Fail> {
     let ended = Ended {
-        words: Some(&words),
+        words: Some(words),
         cause,
         folder: Some("/somewhere"),
         failure: None,
