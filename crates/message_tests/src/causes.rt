@@ -1,4 +1,4 @@
-use crate::kits::{KIT, kit_store, object, told, words_of};
+use crate::kits::{KIT, kit_store, object, told, told_of_words, words_of};
 use kl_base::{Listed, Name};
 use kl_elf::HeadFault;
 use kl_jobs::{Cause, KitCause, ObjectCause, TotalOf};
@@ -107,18 +107,17 @@ fn tells_words(rt: HostRuntime) -> Result<(), Fail> {
             "'--seed' isn't read yet: 'link' draws nothing so far\n",
         ),
     ];
-    for (words, wanted) in rows {
-        let words = words_of(alloc, words)?;
-        let ended = Ended {
-            words: Some(&words),
-            cause: &Cause::Usage,
-            folder: Some("/somewhere"),
-            failure: None,
-        };
-        let text = message(alloc, &ended, &mut MemStore::new(alloc))?;
+    for (line, wanted) in rows {
+        let text = told_of_line(alloc, line)?;
         assert_eq!(rt; text.strip_prefix("relink: "), Some(wanted));
     }
     Ok(())
+}
+
+/// What is told of words that are no command, which bars part.
+fn told_of_line(alloc: Global, line: &[u8]) -> Result<String, Fail> {
+    let words = words_of(alloc, line)?;
+    told_of_words(alloc, &words, &Cause::Usage, &mut MemStore::new(alloc))
 }
 
 #[test]

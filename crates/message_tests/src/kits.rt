@@ -61,7 +61,8 @@ pub fn told(alloc: Global, cause: &Cause, store: &mut MemStore) -> Result<String
     told_of_words(alloc, &words, cause, store)
 }
 
-fn told_of_words<'a>(
+/// What is told of a cause of these words in the folder `/somewhere`.
+pub fn told_of_words<'a>(
     alloc: Global,
     words: &'a [Vec<u8>],
     cause: &'a Cause,
