@@ -204,13 +204,7 @@ fn kernel(alloc: Global) -> Result<Kit, Fail>
 {
     let output = Name::from_bytes(b"/bsd").ok().ok_or("a name")?;
     let entry = Word::from_vec(Vec::from_slice(alloc, b"start")?);
-    Ok(Kit::kernel(
-        alloc,
-        output,
-        BASE,
-        entry,
-        Listed::new(alloc),
-    ))
+    Ok(Kit::kernel(alloc, output, BASE, entry, Listed::new(alloc)))
 }
 
 /// The input of an object with at most 4,096 bytes.
