@@ -1,7 +1,14 @@
+mod BaseWords
 mod InputFiles
 mod KernelKits
+mod KitStatements
 mod LineFaults
 mod Numbers
+mod PrintedFaults
+mod PrintedKeys
+mod PrintedKits
+mod PrintedRows
+mod PrintedStatements
 mod Reading
 mod Rows
 mod Said
