@@ -1,4 +1,6 @@
 mod BaseWords
+mod CountedKeys
+mod FormedStatements
 mod InputFiles
 mod KernelKits
 mod KitStatements
@@ -9,8 +11,10 @@ mod PrintedKeys
 mod PrintedKits
 mod PrintedRows
 mod PrintedStatements
+mod ReadKits
 mod Reading
 mod Rows
 mod Said
 mod SeenKeys
+mod SoundLines
 mod Words

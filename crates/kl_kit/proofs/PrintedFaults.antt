@@ -76,7 +76,7 @@ pub statement_read : (n : ℕ) (s : Statement) → statement_of (row_of s).keywo
 statement_read n s e = ap (λ (o : Option Keyword). option_and_then (λ k. statement_of k n (row_of s).words) o) (keyword_again (row_of s).keyword) ∙ e
 
 -- of keys in two lists none comes again
-comes-append : (before xs ys : List Key) → comes_again before (xs ++ ys) ≡ (comes_again before xs || comes_again (before ++ xs) ys)
+pub comes-append : (before xs ys : List Key) → comes_again before (xs ++ ys) ≡ (comes_again before xs || comes_again (before ++ xs) ys)
 comes-append before [] ys = ap (λ (l : List Key). comes_again l ys) (sym (append-nil before))
 comes-append before (x ∷ xs) ys =
     ap (λ t. has_key before x || t) (comes-append (before ++ x ∷ []) xs ys)

@@ -15,8 +15,8 @@ use kl_model::area::map_name;
 use kl_model::{EdgeLine, Kit, KitInput, KitKind, Part, Run, Word};
 use std::alloc::Global;
 
-/// The text of a kit. Where each of its words is in its form and nothing comes twice that may not, the text reads as that kit, the
-/// numbers of lines aside: they are counted from 1. The only error is want of memory.
+/// The text of a kit. Where each of its words is in its form and nothing comes twice that may not, as in each kit that was read, the
+/// text reads as that kit, the numbers of lines aside. Texts of more than 4 MiB aren't read. The only error is want of memory.
 pub fn print_kit(alloc: Global, kit: &Kit) -> Result<Vec<u8>, NoMemory>
     ensures text { IfOk result (λ text. text.items ≡ kit_text kit.now) }
     ensures sound { IsReadable kit.now → IfOk result (λ text. kit_faults text.items ≡ []) }
