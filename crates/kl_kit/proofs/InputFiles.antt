@@ -60,7 +60,7 @@ line_input l i e = go (keyword_of l.keyword) e
     go None e = cc
     go (Some k) e = input_by k l.number l.words i e
 
-inputs_have : (ls : List KitLine) → AllByRecursion HasFile (many input_said (statements ls))
+pub inputs_have : (ls : List KitLine) → AllByRecursion HasFile (many input_said (statements ls))
 inputs_have [] = tt
 inputs_have (l ∷ ls) = go (line_statement l) (λ i. line_input l i) (inputs_have ls)
   where

@@ -108,7 +108,8 @@ kit_base ls = go (one base_said (statements ls)) refl
     go None e = record { page = (0xffffffff81000, refl); limit = omega arith }
     go (Some m) e = last_is (many base_said (statements ls)) m (bases ls) e
 
-not_told : {X : Type 0} (t : Bool) (x : X) → only_if t x ≡ [] → t ≡ false
+-- what isn't told doesn't stand
+pub not_told : {X : Type 0} (t : Bool) (x : X) → only_if t x ≡ [] → t ≡ false
 not_told true x e = cc
 not_told false x e = refl
 
@@ -119,7 +120,7 @@ entry_is (Some Kernel) None known e kernel = cc
 entry_is (Some Kernel) (Some w) known e kernel = refl
 entry_is (Some Library) entry known e kernel = cc
 
-kernel_is : (ls : List KitLine) → missing (statements ls) ≡ [] → (kit_of_statements (statements ls)).kind ≡ Kernel → IsKernelKit (kit_of_statements (statements ls))
+pub kernel_is : (ls : List KitLine) → missing (statements ls) ≡ [] → (kit_of_statements (statements ls)).kind ≡ Kernel → IsKernelKit (kit_of_statements (statements ls))
 kernel_is ls whole kernel =
     let ss = statements ls in
     let base : IsBase (kit_of_statements ss).base = rw kernel (kit_base ls) in

@@ -4,4 +4,5 @@ pub mod Keywords
 pub mod KitLines
 pub mod KitPrints
 pub mod KitTexts
+pub mod ReadableKits
 pub mod Readers

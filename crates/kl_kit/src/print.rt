@@ -6,6 +6,8 @@ ghost use Rattle.kl_text.specs.Lines.{words_line};
 ghost use Rattle.kl_model.specs.declared.kit.KitKind.TheVariants.{Library};
 ghost use Rattle.kl_kit.specs.declared.keyword.Keyword.TheVariants as keyword;
 ghost use Rattle.kl_kit.specs.KitPrints.{area_word, base_line, base_word, class_word, edge_line, end_word, head_lines, input_line, kind_word, kit_text, library_lines, part_keyword, run_line, word_line};
+ghost use Rattle.kl_kit.specs.KitTexts.{kit_faults, kit_of};
+ghost use Rattle.kl_kit.specs.ReadableKits.{IsReadable, SameKit};
 
 use crate::keyword::Keyword;
 use kl_base::{Class, NoMemory};
@@ -13,10 +15,12 @@ use kl_model::area::map_name;
 use kl_model::{EdgeLine, Kit, KitInput, KitKind, Part, Run, Word};
 use std::alloc::Global;
 
-/// The text of a kit. The only error is want of memory.
-#[tactic(auto, unfolding(crate::specs::KitPrints::kit_text))]
+/// The text of a kit. Where each of its words is in its form and nothing comes twice that may not, as in each kit that was read, the
+/// text reads as that kit, the numbers of lines aside. Texts of more than 4 MiB aren't read. The only error is want of memory.
 pub fn print_kit(alloc: Global, kit: &Kit) -> Result<Vec<u8>, NoMemory>
     ensures text { IfOk result (λ text. text.items ≡ kit_text kit.now) }
+    ensures sound { IsReadable kit.now → IfOk result (λ text. kit_faults text.items ≡ []) }
+    ensures same { IsReadable kit.now → IfOk result (λ text. SameKit (kit_of text.items) kit.now) }
 {
     let mut text = Vec::new(alloc);
     push_head(&mut text, kit)?;

@@ -8,6 +8,7 @@ ghost use Rattle.kl_model.specs.declared.kit.KitKind.TheVariants.{Kernel};
 ghost use Rattle.kl_kit.specs.Forms.{HasFile};
 ghost use Rattle.kl_kit.specs.KitLines.{KitLine, line_of};
 ghost use Rattle.kl_kit.specs.KitTexts.{kit_faults, kit_of, kit_of_statements, line_faults, missing, output_faults, place_faults, said_faults};
+ghost use Rattle.kl_kit.specs.ReadableKits.{IsReadable};
 ghost use Rattle.kl_kit.specs.Readers.{HasRead, IsFirst, parts_of, said_line, stands_at};
 ghost use Rattle.kl_kit.specs.declared.statement.Statement.{Statement};
 ghost use Rattle.kl_kit.specs.declared.fault.KitFault.TheVariants as fault;
@@ -23,7 +24,8 @@ use kl_base::KIT_TEXT_LIMIT;
 use kl_model::{Kit, KitKind};
 use std::alloc::Global;
 
-/// The kit of a text of at most 4 MiB.
+/// The kit of a text of at most 4 MiB. Each word of it is in its form and nothing comes twice, so that `print_kit` prints a text that
+/// reads as it.
 ///
 /// # Errors
 ///
@@ -34,6 +36,7 @@ pub fn read_kit(alloc: Global, text: &[u8]) -> Result<Kit, KitError>
     ensures sound { OnOk result (kit_faults text.now ≡ []) }
     ensures files { IfOk result (λ kit. AllByRecursion HasFile kit.inputs) }
     ensures kernel { IfOk result (λ kit. kit.kind ≡ Kernel → IsKernelKit kit) }
+    ensures readable { IfOk result IsReadable }
     ensures fault { IfErr result (IsFirst (kit_faults text.now)) }
 {
     let mut reader = Reader::new(alloc);
