@@ -1,1 +1,2 @@
 pub mod KitTexts
+pub mod KitForms

@@ -1,7 +1,7 @@
 // A kit text of four lines.
 ghost use Rattle.std.specs.Prelude.{◌≡◌, ℕ, List, Option, IfOk, IfSome, IfNone, true};
 ghost use Rattle.std.specs.Option.{option_map};
-ghost use Rattle.kl_model.specs.Fit.{IsKernelKit};
+ghost use Rattle.kl_model.specs.Fit.{IsKernelKit, IsKit};
 ghost use Rattle.kl_first.specs.KitText.{IsFirstKit, first_kit, is_symbol, is_file, kit_of};
 
 use kl_base::{
@@ -63,6 +63,7 @@ pub fn kit_of(alloc: Global, kit: &FirstKit<'_>) -> Result<Kit, NoMemory>
     requires file { is_file kit.now.file.now ≡ true }
     ensures kit { IfOk result (λ k. k ≡ kit_of kit.now.entry.now kit.now.file.now) }
     ensures kernel { IfOk result IsKernelKit }
+    ensures form { IfOk result IsKit }
 {
     let entry = Word::from_vec(Vec::from_slice(alloc, kit.entry)?);
     let file = Word::from_vec(Vec::from_slice(alloc, kit.file)?);

@@ -7,7 +7,7 @@ use Rattle.std.proofs.lemmas.Bool.{ltb-false}
 use Rattle.kl_base.proofs.Bools.{alone}
 use Rattle.kl_store.specs.Names.{Names}
 use Rattle.kl_model.specs.Faults.{link_fault}
-use Rattle.kl_model.specs.Fit.{AreFit, IsFit, IsKernelKit}
+use Rattle.kl_model.specs.Fit.{AreFit, IsFit, IsKernelKit, IsKit}
 use Rattle.kl_model.specs.Simple.{is_simple}
 use Rattle.kl_model.specs.declared.kit.Kit.{Kit}
 use Rattle.kl_model.specs.declared.object.Input.{Input}
@@ -67,13 +67,14 @@ fit_alone x fit limit small =
       fields = omega (arith, fields);
     }
 
-pub is_linkable : (kit : Kit) (inputs : List Input) (x : Input) (bytes : List ℕ) → IsKernelKit kit → IsFit x → over_limit x ≡ None → length bytes ≤ INPUT_LIMIT → x ≡ input_of bytes
+pub is_linkable : (kit : Kit) (inputs : List Input) (x : Input) (bytes : List ℕ) → IsKit kit → IsKernelKit kit → IsFit x → over_limit x ≡ None → length bytes ≤ INPUT_LIMIT → x ≡ input_of bytes
     → inputs ≡ x ∷ [] → is_simple kit inputs ≡ true → IsLinkable kit inputs
-is_linkable kit inputs x bytes kernel fit limit small ex ei simple =
+is_linkable kit inputs x bytes form kernel fit limit small ex ei simple =
     let long : length x.bytes ≤ INPUT_LIMIT = rw ex small in
     let inputs_fit : AreFit (x ∷ []) = fit_alone x fit limit long in
     record {
-      kernel = kernel;
+      form = form;
+      kernel = kernel.kernel;
       fit = rw ei inputs_fit;
       simple = simple;
       order = rw (ei, ex) (record { moves = []; below = tt; is = refl });

@@ -2,10 +2,11 @@
 use Rattle.std.specs.Prelude.{ℕ, ◌≡◌, List, [], ◌∷◌, map, replicate, IsTrue, None}
 use Rattle.kl_store.specs.Names.{Names}
 use Rattle.kl_model.specs.Carries.{Carries}
-use Rattle.kl_model.specs.Fit.{AreFit, IsKernelKit}
+use Rattle.kl_model.specs.Fit.{AreFit, IsKit}
 use Rattle.kl_model.specs.Orders.{IsOrder, drawn_count}
 use Rattle.kl_model.specs.Simple.{is_simple}
 use Rattle.kl_model.specs.declared.kit.Kit.{Kit}
+use Rattle.kl_model.specs.declared.kit.KitKind.TheVariants.{Kernel}
 use Rattle.kl_model.specs.declared.object.Input.{Input}
 use Rattle.kl_model.specs.declared.place.Placement.{Placement}
 use Rattle.kl_map.specs.MapText.{map_text}
@@ -25,7 +26,8 @@ pub record IsKitOf (m : Names) (dir : List ℕ) (kit : Kit) (inputs : List Input
 
 -- a simple kernel kit without drawn inputs
 pub record IsLinkable (kit : Kit) (inputs : List Input) : Type 0 where
-  pub kernel : IsKernelKit kit
+  pub form : IsKit kit
+  pub kernel : kit.kind ≡ Kernel
   pub fit : AreFit inputs
   pub simple : IsTrue (is_simple kit inputs)
   pub order : IsOrder (drawn_count (map (λ x. x.place) inputs)) []

@@ -2,10 +2,11 @@
 ghost use Rattle.std.specs.Prelude.{◌≡◌, ◌⊎◌, None, Some, length, map, IfErr, IfOk, IsTrue, OnOk};
 ghost use Rattle.kl_model.specs.Carries.{Carries};
 ghost use Rattle.kl_model.specs.Faults.{link_fault};
-ghost use Rattle.kl_model.specs.Fit.{AreFit, IsKernelKit};
+ghost use Rattle.kl_model.specs.Fit.{AreFit, IsKit};
 ghost use Rattle.kl_model.specs.Graphs.{graph};
 ghost use Rattle.kl_model.specs.Orders.{IsOrder, drawn_count};
 ghost use Rattle.kl_model.specs.Simple.{is_simple};
+ghost use Rattle.kl_model.specs.declared.kit.KitKind.TheVariants.{Kernel};
 
 use crate::image::text_image;
 use kl_layout::place;
@@ -39,7 +40,8 @@ pub fn link_kernel(
     gaps: Option<&Gaps>,
     order: &[u32],
 ) -> Result<Linked, LinkFault>
-    requires kit { IsKernelKit kit.now }
+    requires kit { IsKit kit.now }
+    requires kernel { kit.now.kind ≡ Kernel }
     requires inputs { AreFit inputs.now }
     requires simple { IsTrue (is_simple kit.now inputs.now) }
     requires no_gaps { gaps ≡ None }

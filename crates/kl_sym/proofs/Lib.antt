@@ -1,10 +1,10 @@
 pub mod SimpleKits
 pub mod PieceNumbers
 pub mod PieceSteps
-pub mod Doubles
-pub mod Definitions
-pub mod IndexSteps
 pub mod SimpleNames
+pub mod KernelNames
+pub mod KitEdges
+pub mod LeadSteps
 pub mod FieldTargets
 pub mod ResolveFaults
 pub mod KeptPieces

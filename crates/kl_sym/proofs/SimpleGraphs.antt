@@ -27,11 +27,10 @@ use Rattle.kl_model.specs.declared.kit.Kit.{Kit}
 use Rattle.kl_model.specs.declared.graph.Target.{Target}
 use Rattle.kl_model.specs.declared.graph.Target.TheVariants.{Zero}
 use Rattle.kl_model.proofs.Kernels.{kernel_target}
-use Rattle.kl_sym.specs.Index.{global_definitions}
 use Rattle.kl_sym.proofs.FieldTargets.{no_entry_at}
 use Rattle.kl_sym.proofs.KeptPieces.{align_is, all_pieces, kept_known, number-lt, own}
 use Rattle.kl_sym.proofs.SimpleKits.{IsSimpleKit, IsCode, code_of, kept_simple, ordinary_code, pass_at, simple_sections, simple_fields, and_left, and_right, or_right, not_true, not_frame}
-use Rattle.kl_sym.proofs.SimpleNames.{definition-simple, no_common_pieces}
+use Rattle.kl_sym.proofs.SimpleNames.{definition-simple, global_definitions, no_common_pieces}
 use Rattle.kl_sym.proofs.SoundPieces.{pieces_sound}
 use Rattle.kl_sym.proofs.SoundTargets.{EdgesKnown}
 use Rattle.kl_model.specs.Carries.{no_piece, piece_at}

@@ -10,20 +10,19 @@ use Rattle.kl_model.specs.Kept.{input_at, no_input}
 use Rattle.kl_model.specs.Names.{Occurrence, occurrences, first_definition, common_names, definition, edge_names, holds_common, is_definition}
 use Rattle.kl_model.specs.Names.{symbol_target}
 use Rattle.kl_model.specs.Graphs.{common_pieces}
-use Rattle.kl_model.specs.Faults.{is_global_definition, clashes, doubled_after}
+use Rattle.kl_model.specs.Faults.{is_global_definition, clashes}
 use Rattle.kl_model.specs.Simple.{is_simple_symbol}
 use Rattle.kl_model.specs.declared.object.Symbol.{Symbol}
 use Rattle.kl_model.specs.declared.object.Input.{Input}
 use Rattle.kl_model.specs.declared.kit.Kit.{Kit}
 use Rattle.kl_model.proofs.Each.{each-none, filter-each}
-use Rattle.std.specs.declared.collections.BTreeMap.{BTreeMap}
-use Rattle.std.specs.declared.alloc.Global.{Global}
-use Rattle.std.specs.Borrow.{Bor}
-use Rattle.kl_sym.specs.Index.{Indexes, IsIndex, occurrence, definition_of, global_definitions}
-use Rattle.kl_sym.specs.declared.names.Definition.{Definition}
+use Rattle.kl_names.specs.Walked.{occurrence}
 use Rattle.kl_sym.proofs.SimpleKits.{IsSimpleKit, pass_at, simple_symbols, or_right, and_left, and_right, not_true}
-use Rattle.kl_sym.proofs.Doubles.{last_is_first}
 use Rattle.kl_model.specs.Names.{BySymbol, leads_to}
+
+-- the GLOBAL definitions of all inputs
+abbrev pub global_definitions : Kit → List Input → List Occurrence
+global_definitions kit inputs = filter (is_global_definition kit inputs) (occurrences inputs)
 
 -- the first of a name that passes is the first that passes of that name
 find-filter : {X : Type 0} (p same : X → Bool) (xs : List X) → find p (filter same xs) ≡ find same (filter p xs)
@@ -96,13 +95,3 @@ module _ (kit : Kit) (inputs : List Input) (simple : IsSimpleKit kit inputs) whe
 
   pub no_common_pieces : common_pieces kit inputs ≡ []
   no_common_pieces = rw no_commons refl
-
-  mapped : {X Y Z : Type 0} (f : X → Y) (g : Y → Z) (o : Option X) → option_map g (option_map f o) ≡ option_map (λ x. g (f x)) o
-  mapped f g None = refl
-  mapped f g (Some x) = refl
-
-  -- an index of all definitions leads where the kit does
-  pub index_is : (m : BTreeMap (Bor (List ℕ)) Definition Global) → Indexes kit inputs (global_definitions kit inputs) m → doubled_after [] (global_definitions kit inputs) ≡ [] → IsIndex kit inputs m
-  index_is m noted once q =
-      ap (option_map (λ d. d.target)) (noted q ∙ ap (option_map (definition_of kit inputs)) (last_is_first (global_definitions kit inputs) q once))
-      ∙ (mapped (definition_of kit inputs) (λ d. d.target) _ ∙ sym (definition-simple q))

@@ -120,7 +120,7 @@ module _ (kit : Kit) (inputs : List Input) (fit : AreFit inputs) where
       (All-filter (λ o. bytes_eq o.name name) (IsOccurrence inputs) (occurrences inputs) all_occur) e in
       symbol_sound o found.0 (and_right (o.symbol.binding == binding) _ found.1)
 
-  pieces_numbered : length (section_pieces kit inputs) ≡ length (kept_numbers kit inputs)
+  pub pieces_numbered : length (section_pieces kit inputs) ≡ length (kept_numbers kit inputs)
   pieces_numbered = sym (kept-pieces kit inputs 0 inputs)
 
   common_sound : (name found : List ℕ) → find (bytes_eq name) (common_names kit inputs) ≡ Some found → IsSoundTarget kit (graph kit inputs) (Place (common_number kit inputs found) 0)

@@ -1,3 +1,4 @@
-pub mod Index
+pub mod Leads
 pub mod Targets
+pub mod NameFaults
 pub mod SectionLines

@@ -3,7 +3,9 @@
 
 mod fields;
 mod graph;
+mod leads;
 mod lines;
+mod loader;
 mod names;
 mod pieces;
 mod simple;

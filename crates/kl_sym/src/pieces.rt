@@ -41,7 +41,7 @@ fn is_kept(lines: &SectionLines<'_>, section: &Section, name: &[u8], removed: bo
 }
 
 /// The class of a section.
-fn class_of(section: &Section) -> Class
+pub(crate) fn class_of(section: &Section) -> Class
     ensures { result ≡ class_of_section section.now }
 {
     if section.flags & SHF_EXECINSTR != 0 {

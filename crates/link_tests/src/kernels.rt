@@ -1,9 +1,10 @@
 // Kernels of several objects, from the bytes of the objects to the bytes of the image.
 ghost use Rattle.std.specs.Prelude.{ℕ, ◌≡◌, ◌+◌, ◌<◌, ◌≤◌, ◌∷◌, [], length, map, All, AllPairs, IfOk};
 ghost use Rattle.std.specs.List.{range_with_len};
-ghost use Rattle.kl_model.specs.Fit.{IsFit, IsKernelKit};
+ghost use Rattle.kl_model.specs.Fit.{IsFit, IsKit};
 ghost use Rattle.kl_model.specs.Kept.{part_number};
 ghost use Rattle.kl_model.specs.Orders.{IsOrder, drawn_count};
+ghost use Rattle.kl_model.specs.declared.kit.KitKind.TheVariants.{Kernel};
 ghost use Rattle.link_tests.specs.Small.{IsSmall};
 
 use kl_base::{Listed, Name};
@@ -200,7 +201,8 @@ const BASE: u64 = 0xffff_ffff_8100_0000;
 
 /// A kernel's kit whose entry is `start`.
 fn kernel(alloc: Global) -> Result<Kit, Fail>
-    ensures { IfOk result IsKernelKit }
+    ensures form { IfOk result IsKit }
+    ensures kernel { IfOk result (λ kit. kit.kind ≡ Kernel) }
 {
     let output = Name::from_bytes(b"/bsd").ok().ok_or("a name")?;
     let entry = Word::from_vec(Vec::from_slice(alloc, b"start")?);

@@ -74,7 +74,7 @@ returns-clause-stands g c = λ m told.
 
 pub returns-clause-linkable : goal.returns-clause-linkable
 returns-clause-linkable g c =
-    is_linkable c.in_ok-kit.kit c.in_ok-inputs.inputs.items c.in_ok-input.input c.in_ok-bytes.bytes.items c.in_ok-kit.ensures.kernel c.in_ok-input.ensures.fit c.in_ok-input.ensures.limit
+    is_linkable c.in_ok-kit.kit c.in_ok-inputs.inputs.items c.in_ok-input.input c.in_ok-bytes.bytes.items c.in_ok-kit.ensures.form c.in_ok-kit.ensures.kernel c.in_ok-input.ensures.fit c.in_ok-input.ensures.limit
     c.in_ok-bytes.ensures.within c.in_ok-input.ensures.input c.in_ok-inputs.ensures.items (sym (rw c.deref-2.ensures.value at c.is_simple.ensures) ∙ c.if-not-is_simple.false)
 
 pub returns-then-not-is_simple-clause-still : goal.returns-then-not-is_simple-clause-still
