@@ -18,3 +18,4 @@ mod Said
 mod SeenKeys
 mod SoundLines
 mod Words
+pub mod LinkedKits

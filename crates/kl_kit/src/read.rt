@@ -3,8 +3,7 @@ ghost use Rattle.std.specs.Prelude.{◌≡◌, ◌≤◌, ◌++◌, ◌∷◌, [
 ghost use Rattle.std.specs.Result.{result_err};
 ghost use Rattle.std.specs.List.{AllByRecursion};
 ghost use Rattle.kl_text.specs.Lines.{words};
-ghost use Rattle.kl_model.specs.Fit.{IsKernelKit};
-ghost use Rattle.kl_model.specs.declared.kit.KitKind.TheVariants.{Kernel};
+ghost use Rattle.kl_model.specs.Fit.{IsKit};
 ghost use Rattle.kl_kit.specs.Forms.{HasFile};
 ghost use Rattle.kl_kit.specs.KitLines.{KitLine, line_of};
 ghost use Rattle.kl_kit.specs.KitTexts.{kit_faults, kit_of, kit_of_statements, line_faults, missing, output_faults, place_faults, said_faults};
@@ -35,7 +34,7 @@ pub fn read_kit(alloc: Global, text: &[u8]) -> Result<Kit, KitError>
     ensures kit { IfOk result (λ kit. kit ≡ kit_of text.now) }
     ensures sound { OnOk result (kit_faults text.now ≡ []) }
     ensures files { IfOk result (λ kit. AllByRecursion HasFile kit.inputs) }
-    ensures kernel { IfOk result (λ kit. kit.kind ≡ Kernel → IsKernelKit kit) }
+    ensures form { IfOk result IsKit }
     ensures readable { IfOk result IsReadable }
     ensures fault { IfErr result (IsFirst (kit_faults text.now)) }
 {

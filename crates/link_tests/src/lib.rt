@@ -4,8 +4,6 @@
 #[cfg(test)]
 mod bytes;
 #[cfg(test)]
-mod kernels;
-#[cfg(test)]
 mod maps;
 #[cfg(test)]
 mod objects;

@@ -3,7 +3,7 @@ use Rattle.kl_text.specs.Lines.{lines}
 use Rattle.kl_kit.specs.KitLines.{said, statements}
 use Rattle.kl_kit.specs.KitTexts.{kit_faults, kit_of, missing}
 use Rattle.kl_kit.proofs.InputFiles.{files_read}
-use Rattle.kl_kit.proofs.KernelKits.{kernel_read}
+use Rattle.kl_kit.proofs.LinkedKits.{linked_read}
 use Rattle.kl_kit.proofs.ReadKits.{readable_read}
 use Rattle.kl_kit.proofs.Reading.{all_read, all_said, empty_is, faults_end, handed_on, line_first, next_at, none_missing, said_more, sound_more}
 use Rattle.kl_kit.proofs.read.read_kit.Goals as goal
@@ -54,10 +54,8 @@ returns-clause-files c =
     let ls = said (take c.loop-rest.number (lines c.args.text.now)) in
     files_read ls c.kit.result (c.kit.ensures.kit (statements ls) c.loop-rest.invariant.read.parts)
 
-pub returns-clause-kernel : goal.returns-clause-kernel
-returns-clause-kernel c =
-    let ls = said (take c.loop-rest.number (lines c.args.text.now)) in
-    kernel_read ls c.kit.result (c.kit.ensures.kit (statements ls) c.loop-rest.invariant.read.parts) (c.kit.ensures.sound (statements ls) c.loop-rest.invariant.read.parts)
+pub returns-clause-form : goal.returns-clause-form
+returns-clause-form c = linked_read c.args.text.now c.kit.result c.requires (returns-clause-kit c) (returns-clause-sound c)
 
 pub returns-clause-readable : goal.returns-clause-readable
 returns-clause-readable c = readable_read c.args.text.now c.kit.result (returns-clause-kit c) (returns-clause-sound c)

@@ -1,0 +1,14 @@
+use Rattle.std.proofs.Common.{◌≤◌}
+use Rattle.std.specs.Prelude.{All, AllPairs}
+use Rattle.kl_model.specs.Fit.{IsFit}
+use Rattle.kl_model.specs.Kept.{part_number}
+use Rattle.kernel_tests.specs.Small.{IsSmall}
+use Rattle.kernel_tests.proofs.kernels.ring.Given as goal
+
+abbrev pub invariant-loop-number : goal.invariant-loop-number
+invariant-loop-number l = record {
+  fit : All IsFit l.found.items;
+  small : All IsSmall l.found.items;
+  places : AllPairs (λ x y. part_number x.place ≤ part_number y.place) l.found.items;
+  before : All (λ x. part_number x.place ≤ 1) l.found.items;
+}

@@ -1,0 +1,4 @@
+# The address of a WEAK name that nothing defines.
+        .weak absent
+        .text
+        .quad absent

@@ -1,0 +1,2 @@
+# A common of that name.
+        .comm etext,4,4
