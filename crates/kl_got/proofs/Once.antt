@@ -1,5 +1,5 @@
 -- Lists in which each item stands once: one item more.
-use Rattle.std.proofs.Common.{ℕ, zero, suc, ◌≡◌, ◌+◌, ◌∙◌, List, [], ◌∷◌, ◌++◌, length, refl, ap, sym, Bool, true, false, not, ◌||◌, cond, inl, inr, arith, nat_eq, eqb-true, eq-eqb}
+use Rattle.std.proofs.Common.{ℕ, zero, suc, ◌≡◌, ◌+◌, ◌∙◌, List, [], ◌∷◌, ◌++◌, length, refl, ap, sym, Bool, true, false, not, ◌||◌, cond, inl, inr, arith}
 use Rattle.std.specs.Prelude.{Some, None, Option, filter}
 use Rattle.std.specs.Option.{option_or}
 use Rattle.std.specs.List.{list_any, position_from}

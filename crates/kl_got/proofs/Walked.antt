@@ -1,9 +1,10 @@
 -- One field more.
-use Rattle.std.proofs.Common.{ℕ, suc, ◌≡◌, ◌+◌, ◌<◌, ◌≤◌, ◌∙◌, List, [], ◌∷◌, ◌++◌, length, get_or, take, map, refl, ap, sym, Bool, true, false, not, cond, inl, inr, arith, nat_eq, eqb-true, eq-eqb}
-use Rattle.std.specs.Prelude.{All, pos, Some, None, Option, filter, slice_index_or}
+use Rattle.std.proofs.Common.{ℕ, ◌≡◌, ◌+◌, ◌<◌, ◌≤◌, ◌∙◌, List, [], ◌∷◌, ◌++◌, length, length-take-le, get_or, take, map, refl, ap, sym, Bool, true, false, not, inl, inr, arith, nat_eq, eqb-true, eq-eqb}
+use Rattle.std.specs.Prelude.{All, AllPairs, pos, Some, None, filter}
 use Rattle.std.specs.List.{list_any}
 use Rattle.std.proofs.lemmas.Bool.{cases_Bool}
-use Rattle.std.proofs.lemmas.List.{append-nil, length-map, map-append, take_more}
+use Rattle.std.proofs.lemmas.List.{append-nil, get_or-take, get_or_default, length-map, map-append, take_more}
+use Rattle.std.proofs.lemmas.List.Folds.{list_any_none}
 use Rattle.std.proofs.lemmas.List.Elements.{All-head, All-tail, filter-append}
 use Rattle.kl_model.specs.Lists.{once}
 use Rattle.kl_model.specs.Relocations.{is_slot_kind}
@@ -15,9 +16,9 @@ use Rattle.kl_model.specs.declared.graph.Target.{Target}
 use Rattle.kl_model.specs.declared.graph.Target.TheVariants.{Place, Abs, Edge, Name, Zero, Gone}
 use Rattle.kl_model.specs.declared.kit.Kit.{Kit}
 use Rattle.kl_model.proofs.StandOnce.{target-is, target-refl}
-use Rattle.kl_got.specs.Numbered.{same_value}
+use Rattle.kl_got.specs.Numbered.{same_value, with_target}
 use Rattle.kl_got.specs.Made.{slots_of, stub_name, stubs_of, with_slot, with_stub}
-use Rattle.kl_got.proofs.Once.{once_push}
+use Rattle.kl_got.proofs.Once.{once_push, other_way}
 
 -- `==` compares targets as values
 pub value-is : (t u : Target) → same_value t u ≡ same_target t u
@@ -154,3 +155,12 @@ none_pass kit g none (f ∷ fs) sound = elim (cases_Bool (takes_stub (way_of f))
 -- where there are no dynamic names there are no stubs
 pub no_stubs : (kit : Kit) (g : Graph) → g.names ≡ [] → All (IsSoundField kit g) g.fields → stubs_of g.fields ≡ []
 no_stubs kit g none sound = ap (λ l. once nat_eq (map (λ f. name_of f.target) l)) (none_pass kit g none g.fields sound)
+
+-- a target that stands behind others, which all stand once
+pub target_more : (ts : List Target) (i : ℕ) (d : Target) → AllPairs (λ x y. same_target x y ≡ false) ts → i < length ts → with_target (take i ts) (get_or ts i d) ≡ take (i + 1) ts
+target_more ts i d apart h =
+    let t = get_or ts i d in
+    let none : list_any (same_target t) (take i ts) ≡ false = list_any_none (same_target t) (take i ts) (λ k e l.
+    let low : k < i = omega (arith, length-take-le i ts) in
+    rw (get_or-take i ts k e low, get_or_default ts k e d (omega arith)) (other_way same_target target-is target-refl (get_or ts k d) t (apart k i d low h))) in
+    rw none (sym (take_more ts i d h))

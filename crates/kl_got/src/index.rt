@@ -1,5 +1,6 @@
 // Targets by number.
-ghost use Rattle.std.specs.Prelude.{◌≡◌, ◌<◌, ◌^◌, [], length, Some, IfOk, OnErr, OnOk};
+ghost use Rattle.std.specs.Prelude.{◌≡◌, ◌<◌, ◌^◌, [], false, length, AllPairs, Some, IfOk, OnErr, OnOk};
+ghost use Rattle.kl_model.specs.Slots.{same_target};
 ghost use Rattle.kl_got.specs.Numbered.{number_of, with_target};
 
 use kl_base::NoMemory;
@@ -38,6 +39,22 @@ impl SlotIndex {
             targets: Vec::new(alloc),
             numbers: HashMap::new(alloc),
         }
+    }
+
+    /// The index of targets that stand once each. The only error is want of memory.
+    pub fn of(alloc: Global, targets: &[Target]) -> Result<Self, NoMemory>
+        requires apart { AllPairs (λ x y. same_target x y ≡ false) targets.now }
+        requires few { length targets.now < 2 ^ 32 }
+        ensures { IfOk result (λ a. a ≡ targets.now) }
+    {
+        let mut index = SlotIndex {
+            targets: Vec::with_capacity(alloc, targets.len())?,
+            numbers: HashMap::with_capacity(alloc, targets.len())?,
+        };
+        for target in targets {
+            index.number(*target)?;
+        }
+        Ok(index)
     }
 
     /// The targets in order of number.

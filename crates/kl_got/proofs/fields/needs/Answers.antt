@@ -1,7 +1,6 @@
-use Rattle.std.proofs.Common.{◌≡◌, ◌+◌, ◌<◌, ◌≤◌, ◌∙◌, [], length, get_or, take, ap, sym, arith, length-take-le}
+use Rattle.std.proofs.Common.{◌∙◌, length, get_or, take, ap, sym, arith, length-take-le}
 use Rattle.std.proofs.lemmas.List.{take_all}
-use Rattle.kl_base.specs.declared.limits.TheConstants.{FIELD_COUNT_LIMIT}
-use Rattle.kl_got.specs.Made.{AreMarked, slots_of, stubs_of, with_slot, with_stub}
+use Rattle.kl_got.specs.Made.{stubs_of, with_slot, with_stub}
 use Rattle.kl_got.proofs.Walked.{no_stubs, slots-few, slots_more, stub_name-known, stubs_more, zero_field}
 use Rattle.kl_got.proofs.fields.needs.Goals as goal
 

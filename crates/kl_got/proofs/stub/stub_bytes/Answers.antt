@@ -1,7 +1,6 @@
-use Rattle.std.proofs.Common.{◌≡◌, ◌∙◌, ap, arith, rules}
+use Rattle.std.proofs.Common.{◌∙◌, ap, arith, rules}
 use Rattle.kl_le.specs.Bytes.{num}
 use Rattle.kl_model.specs.Reaches.{plus, signed_4}
-use Rattle.kl_model.specs.Tables.{stub_code}
 use Rattle.kl_got.proofs.Distances.{leads}
 use Rattle.kl_got.proofs.stub.stub_bytes.Goals as goal
 

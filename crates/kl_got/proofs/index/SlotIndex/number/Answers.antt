@@ -1,6 +1,5 @@
-use Rattle.std.proofs.Common.{◌≡◌, ◌∙◌, ◌++◌, ◌∷◌, [], List, length, ap, sym, cond, rules, Some, None, false, true}
+use Rattle.std.proofs.Common.{◌≡◌, ◌∙◌, ◌++◌, ◌∷◌, [], List, length, ap, sym, cond, rules, Some, None}
 use Rattle.std.specs.HashMap.{get}
-use Rattle.std.specs.List.{list_any}
 use Rattle.kl_model.specs.Slots.{same_target}
 use Rattle.kl_model.specs.declared.graph.Target.{Target}
 use Rattle.kl_model.proofs.StandOnce.{target-is, target-refl}
