@@ -22,7 +22,7 @@ use Rattle.kl_model.specs.declared.graph.Target.TheVariants.{Place, Abs, Edge, N
 use Rattle.kl_model.specs.declared.place.Placement.{Placement}
 use Rattle.kl_model.proofs.Each.{each_more}
 use Rattle.kl_kernel.specs.TextImage.{HoldsValue, StandInText, field_at, field_place, no_field, range_fault, stands_at}
-use Rattle.kl_model.specs.Slots.{Directly, way, way_of}
+use Rattle.kl_model.specs.Slots.{Directly, way}
 use Rattle.kl_model.specs.Leads.{led_to}
 
 pub not_gone : (g : Graph) (t : Target) → IsSimpleTarget g t → same_target t Gone ≡ false

@@ -3,6 +3,7 @@ pub mod PieceBytes
 pub mod FieldValues
 pub mod FilledImages
 pub mod TextImages
+pub mod TextLines
 pub mod TextLaid
 pub mod TextCarries
 pub mod LinkFaults

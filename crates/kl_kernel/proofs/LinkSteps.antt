@@ -1,5 +1,5 @@
 -- The steps of a link: names, the layout, the image.
-use Rattle.std.proofs.Common.{◌≡◌, ◌≤◌, ◌∙◌, ℕ, List, ap, map}
+use Rattle.std.proofs.Common.{◌≡◌, ◌≤◌, ◌∙◌, ℕ, List, Option, ap, map, subst}
 use Rattle.std.specs.Prelude.{Some, None, IsTrue, slice_get}
 use Rattle.kl_model.specs.Carries.{Carries, NamesPieces}
 use Rattle.kl_base.specs.declared.limits.TheConstants.{SPAN_LIMIT}
@@ -13,6 +13,7 @@ use Rattle.kl_model.specs.Simple.{IsSimpleGraph, IsWritable, is_simple}
 use Rattle.kl_model.specs.declared.object.Input.{Input}
 use Rattle.kl_model.specs.declared.kit.Kit.{Kit}
 use Rattle.kl_model.specs.declared.graph.Graph.{Graph}
+use Rattle.kl_model.specs.declared.place.Gaps.{Gaps}
 use Rattle.kl_model.specs.declared.place.Placement.{Placement}
 use Rattle.kl_sym.proofs.SimpleKits.{simple_kit}
 use Rattle.kl_sym.proofs.SimpleGraphs.{simple_graph, writable}
@@ -37,11 +38,25 @@ module _ (kit : Kit) (inputs : List Input) (order : List ℕ) (kernel : IsKernel
     pub graph_writable : IsWritable inputs g
     graph_writable = rw is (writable kit inputs fit (simple_kit kit inputs simple) (sound-fields kit inputs sound))
 
-    pub span_fault : (e : LayoutFault) → layout_fault (span kit g None order no_made) ≡ Some e → link_fault kit inputs None order ≡ Some (as_link_fault e)
-    span_fault e h = of_span kit inputs order kernel.kernel sound (rw is at graph_writable) e (rw is at h)
+    pub span_fault : (gaps : Option Gaps) → gaps ≡ None → (e : LayoutFault) → layout_fault (span kit g gaps order no_made) ≡ Some e → link_fault kit inputs None order ≡ Some (as_link_fault e)
+    span_fault gaps none e h =
+        let past : layout_fault (span kit g None order no_made) ≡ Some e = rw none at h in
+        of_span kit inputs order kernel.kernel sound (rw is at graph_writable) e (rw is at past)
 
-    module _ (p : Placement) (laid : Laid p kit g None order no_made) (names : NamesPieces p g None) (placed_so : p ≡ placed kit g None order no_made)
-        (small : span kit g None order no_made ≤ SPAN_LIMIT) where
+    module _ (p : Placement) (gaps : Option Gaps) (none : gaps ≡ None) (laid_with : Laid p kit g gaps order no_made) (names_with : NamesPieces p g gaps)
+        (placed_with : p ≡ placed kit g gaps order no_made) (small_with : span kit g gaps order no_made ≤ SPAN_LIMIT) where
+      laid : Laid p kit g None order no_made
+      laid = subst (λ z. Laid p kit g z order no_made) none laid_with
+
+      names : NamesPieces p g None
+      names = subst (NamesPieces p g) none names_with
+
+      placed_so : p ≡ placed kit g None order no_made
+      placed_so = subst (λ z. p ≡ placed kit g z order no_made) none placed_with
+
+      small : span kit g None order no_made ≤ SPAN_LIMIT
+      small = subst (λ z. span kit g z order no_made ≤ SPAN_LIMIT) none small_with
+
       pub stands : StandInText p g
       stands = stand_in_text kit g order p kernel graph_simple graph_order laid names placed_so small
 

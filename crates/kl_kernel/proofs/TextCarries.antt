@@ -38,9 +38,9 @@ use Rattle.kl_model.proofs.ClassMemory.{InOrder, mem_file, mem_in_class}
 use Rattle.kl_model.proofs.Each.{each-all, each-pairs}
 use Rattle.kl_model.proofs.InOrder.{get_found}
 use Rattle.kl_layout.specs.Spans.{no_made}
-use Rattle.kl_layout.proofs.Lines.{spreads_text}
 use Rattle.kl_kernel.specs.TextImage.{HoldsValue, InNoPiece, IsTextImage, OnlyText, StandInText, file_place, stands_at}
 use Rattle.kl_kernel.proofs.FieldValues.{directly, target-value, wide}
+use Rattle.kl_kernel.proofs.TextLines.{spreads_text}
 use Rattle.kl_kernel.proofs.TextLaid.{classes_in_order, only_text, piece_aligned, piece_in_line, pieces_apart, stand_in_text}
 use Rattle.kl_model.proofs.Kernels.{kernel_made, of_laid}
 use Rattle.kl_model.specs.declared.kit.KitKind.TheVariants.{Kernel}

@@ -38,9 +38,8 @@ use Rattle.kl_model.proofs.Covered.{In, here, there, in_line, index_of, part_of}
 use Rattle.kl_model.proofs.Each.{each-all}
 use Rattle.kl_model.proofs.Addresses.{up_page-lt}
 use Rattle.kl_layout.specs.Spans.{no_made}
-use Rattle.kl_layout.specs.TextLine.{text_line}
-use Rattle.kl_layout.proofs.Lines.{aligned_parts, line_bss, line_pieces, line_rodata, line_rwdata, line_text}
 use Rattle.kl_kernel.specs.TextImage.{OnlyText, StandInText, stands_at}
+use Rattle.kl_kernel.proofs.TextLines.{aligned_parts, line_bss, line_pieces, line_rodata, line_rwdata, line_text, text_line}
 use Rattle.kl_model.proofs.Kernels.{KernelLaid, kernel_from, kernel_page, of_laid}
 
 -- what a list has at some place is in it

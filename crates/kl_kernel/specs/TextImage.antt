@@ -1,5 +1,5 @@
 -- The image of a kernel whose only bytes are those of text. For the contracts inside this crate alone.
-use Rattle.std.specs.Prelude.{ℕ, ◌+◌, ◌-◌, ◌*◌, ◌^◌, ◌%◌, ◌≡◌, ◌≤◌, ◌<◌, ◌⊎◌, true, cond, if◌then◌else◌, not, pos, ◌==◌, List, length, slice_index, slice_index_or, All}
+use Rattle.std.specs.Prelude.{ℕ, ◌+◌, ◌-◌, ◌*◌, ◌^◌, ◌%◌, ◌≡◌, ◌≤◌, ◌<◌, ◌⊎◌, true, if◌then◌else◌, not, pos, ◌==◌, List, length, slice_index, slice_index_or, All}
 use Rattle.std.specs.Option.{option_map_or}
 use Rattle.kl_le.specs.Bytes.{num, Outside}
 use Rattle.kl_model.specs.Laid.{unwrapped, area_at, no_area, no_placed}

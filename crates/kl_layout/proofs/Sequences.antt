@@ -17,7 +17,7 @@ use Rattle.kl_model.specs.Orders.{IsOrder}
 use Rattle.kl_model.specs.declared.object.Part.TheVariants.{Head, Drawn, Tail}
 use Rattle.kl_model.specs.declared.graph.Graph.{Graph}
 use Rattle.kl_model.specs.declared.place.LinePart.{LinePart}
-use Rattle.kl_layout.specs.TextLine.{input_sequence}
+use Rattle.kl_layout.specs.Once.{input_sequence}
 use Rattle.kl_layout.proofs.Enumerated.{passing, passing_holds, distinct_passing, distinct_joined, all_append}
 
 -- the numbers of an order lie below its count
@@ -30,7 +30,7 @@ order_below n order o =
 apart_numbers : (a b : ℕ) → a ≢ b → eqb a b ≡ false
 apart_numbers a b h = ne_eqb a b h
 
-flip_numbers : (a b : ℕ) → eqb a b ≡ eqb b a
+pub flip_numbers : (a b : ℕ) → eqb a b ≡ eqb b a
 flip_numbers a b = go (eqb a b) (eqb b a) refl refl
   where
     go : (s t : Bool) → eqb a b ≡ s → eqb b a ≡ t → eqb a b ≡ eqb b a
@@ -66,7 +66,7 @@ module _ (g : Graph) where
       subst (λ (l : List ℕ). IsDistinct eqb (inputs_in g Head ++ (inputs_in g Drawn ++ l))) last joined
 
   -- the drawn inputs by an order are the drawn inputs
-  drawn_permuted : (order : List ℕ) → IsOrder (length (inputs_in g Drawn)) order → IsPermutation (inputs_in g Drawn) (map (slice_index (inputs_in g Drawn)) order)
+  pub drawn_permuted : (order : List ℕ) → IsOrder (length (inputs_in g Drawn)) order → IsPermutation (inputs_in g Drawn) (map (slice_index (inputs_in g Drawn)) order)
   drawn_permuted order o =
       let drawn = inputs_in g Drawn in
       let places = fill_by_all (slice_index drawn) drawn (length drawn) 0 refl (λ k h. refl) in

@@ -14,7 +14,7 @@ use Rattle.kl_model.specs.declared.place.Body.{Body}
 use Rattle.kl_model.specs.declared.place.Body.TheVariants as body
 use Rattle.kl_model.specs.declared.place.LinePart.{LinePart}
 use Rattle.kl_model.proofs.InOrder.{Aligned, le-up, le-reach}
-use Rattle.kl_layout.specs.TextLine.{AreOnce}
+use Rattle.kl_layout.specs.Once.{AreOnce}
 
 same_class_itself : (c : Class) → same_class c c ≡ true
 same_class_itself Text = refl

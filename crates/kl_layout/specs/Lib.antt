@@ -1,3 +1,5 @@
-pub mod TextLine
+pub mod Once
+pub mod Spreads
+pub mod Stops
 pub mod Spans
 pub mod OnePlacement

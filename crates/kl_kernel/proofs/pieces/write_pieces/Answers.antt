@@ -1,4 +1,4 @@
-use Rattle.std.proofs.Common.{◌≡◌, ◌+◌, ◌-◌, ◌<◌, ◌^◌, ◌∙◌, length, get_or, take, drop, ap, sym, arith, length-take, length-drop}
+use Rattle.std.proofs.Common.{◌≡◌, ◌+◌, ◌<◌, ◌^◌, ◌∙◌, length, get_or, take, drop, ap, sym, arith, length-take, length-drop}
 use Rattle.std.proofs.lemmas.List.{get_or_default}
 use Rattle.kl_model.specs.Kept.{input_at, no_input}
 use Rattle.kl_model.specs.Carries.{piece_at, no_piece}

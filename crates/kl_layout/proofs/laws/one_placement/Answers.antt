@@ -1,4 +1,4 @@
-use Rattle.kl_layout.proofs.OnlyPlacement as only
+use Rattle.kl_layout.proofs.OnlyPlaced as only
 use Rattle.kl_layout.proofs.laws.one_placement.Goals as goal
 
 pub returns : goal.returns

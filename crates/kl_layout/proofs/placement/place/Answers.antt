@@ -1,87 +1,105 @@
-use Rattle.std.proofs.Common.{ℕ, ◌≡◌, ◌<◌, ◌≤◌, ◌∙◌, List, length, get_or, ap, sym, arith, inr, refl, subst, None}
-use Rattle.std.proofs.lemmas.List.Elements.{All-from_recursion, All-weaker}
-use Rattle.std.proofs.lemmas.Nat.{pow_pos}
+use Rattle.std.proofs.Common.{ℕ, ◌≡◌, ◌+◌, ◌-◌, ◌<◌, ◌≤◌, ◌∙◌, List, length, take, ap, sym, subst, arith, inr, refl}
+use Rattle.std.specs.Prelude.{All, slice_get}
+use Rattle.std.specs.Option.{option_copied}
 use Rattle.std.proofs.lemmas.Bool.{lt-ltb}
-use Rattle.kl_model.specs.Carries.{NamesPieces}
-use Rattle.kl_model.specs.Laid.{Laid, span}
-use Rattle.kl_layout.specs.Spans.{no_made}
-use Rattle.kl_layout.specs.TextLine.{text_line, IsPiecePart, address_in}
-use Rattle.kl_layout.proofs.Lines.{line_pieces, line_once, short_parts}
-use Rattle.kl_layout.proofs.TextPlaced.{placed_is, placed_from, span_from, names, laid}
+use Rattle.std.proofs.lemmas.List.{length-take-le}
+use Rattle.kl_base.specs.declared.limits.TheConstants.{SPAN_LIMIT}
+use Rattle.kl_base.specs.declared.class.Class.TheVariants.{Bss}
+use Rattle.kl_model.specs.Laid.{reach, span}
+use Rattle.kl_model.specs.Line.{class_line}
+use Rattle.kl_model.specs.Placed.{class_from}
+use Rattle.kl_model.specs.declared.place.AreaAt.{AreaAt}
+use Rattle.kl_model.specs.declared.place.LinePart.{LinePart}
+use Rattle.kl_model.specs.declared.place.Placement.{Placement}
+use Rattle.kl_layout.specs.Once.{AreOnce}
+use Rattle.kl_layout.specs.Spreads.{AreSpreads}
+use Rattle.kl_layout.specs.Stops.{IsPart, laid_pieces, room}
+use Rattle.kl_layout.proofs.LineParts.{line_known, lines_room}
+use Rattle.kl_layout.proofs.OneEach.{lines_once}
+use Rattle.kl_layout.proofs.PlacedStops.{end_is, get_take, laid_is, names, placed_is}
+use Rattle.kl_layout.proofs.SpreadLaws.{line_listed, lines_listed}
 use Rattle.kl_layout.proofs.placement.place.Goals as goal
 
-pub lay-requires-clause-pieces : goal.lay-requires-clause-pieces
-lay-requires-clause-pieces c =
-    let g = c.args.graph.now in
-    let parts : c.deref.result.now ≡ text_line g c.args.order.now = c.deref.ensures.value ∙ c.in_ok-parts.ensures in
-    rw (parts, c.items.ensures) (All-from_recursion (IsPiecePart (length g.pieces)) (text_line g c.args.order.now) (line_pieces c.args.kit.now g c.requires.simple c.args.order.now))
+pub lay_lists-requires-clause-steps : goal.lay_lists-requires-clause-steps
+lay_lists-requires-clause-steps c = λ k d l. (c.requires.sound.pieces k d l).align
 
-pub lay-requires-clause-once : goal.lay-requires-clause-once
-lay-requires-clause-once c =
-    let g = c.args.graph.now in
-    let parts : c.deref.result.now ≡ text_line g c.args.order.now = c.deref.ensures.value ∙ c.in_ok-parts.ensures in
-    rw parts (line_once c.args.kit.now g c.requires.simple c.args.order.now c.requires.order)
-
-pub lay-requires-clause-few : goal.lay-requires-clause-few
-lay-requires-clause-few c =
-    let g = c.args.graph.now in
-    let order = c.args.order.now in
-    let simple = c.requires.simple in
-    let parts : c.deref.result.now ≡ text_line g order = c.deref.ensures.value ∙ c.in_ok-parts.ensures in
-    let short = short_parts (length g.pieces) (text_line g order) (line_pieces c.args.kit.now g simple order) (line_once c.args.kit.now g simple order c.requires.order) in
-    rw parts (omega (arith, short, simple.count))
-
-pub next_multiple_of-found-requires-clause-fits : goal.next_multiple_of-found-requires-clause-fits
-next_multiple_of-found-requires-clause-fits c =
-    let g = c.args.graph.now in
-    let order = c.args.order.now in
-    let simple = c.requires.simple in
-    let parts = ap length (c.deref.ensures.value ∙ c.in_ok-parts.ensures) in
-    let short = short_parts (length g.pieces) (text_line g order) (line_pieces c.args.kit.now g simple order) (line_once c.args.kit.now g simple order c.requires.order) in
-    omega (arith, parts, short, simple.count, c.in_ok-addresses.ensures.short)
-
-pub returns-then-found-gt-SPAN_LIMIT-clause-err : goal.returns-then-found-gt-SPAN_LIMIT-clause-err
-returns-then-found-gt-SPAN_LIMIT-clause-err c =
+pub lay_lists-requires-clause-parts : goal.lay_lists-requires-clause-parts
+lay_lists-requires-clause-parts c =
     let kit = c.args.kit.now in
     let g = c.args.graph.now in
+    let gaps = option_copied c.args.gaps in
     let order = c.args.order.now in
-    let parts : c.deref.result.now ≡ text_line g order = c.deref.ensures.value ∙ c.in_ok-parts.ensures in
-    let page = c.requires.kit.base_page in
-    let found = span_from kit g order c.requires.simple c.in_ok-addresses.size page.0 page.1 (rw parts at c.in_ok-addresses.ensures.reach) in
-    let past = lt-ltb 536870912 c.next_multiple_of-found.result (omega arith) in
-    inr (rw (c.requires.no_made, found, ← c.next_multiple_of-found.ensures.value, past) refl)
+    let made = c.args.made.now in
+    let lists = c.deref.result.now in
+    let s : AreSpreads kit g gaps order made lists = subst (AreSpreads kit g gaps order made) (sym c.deref.ensures.value) c.in_ok-lists.ensures in
+    λ k. subst (λ (l : List LinePart). All (IsPart (19 + length g.pieces)) l) (sym (line_listed kit g gaps order made lists s k)) (line_known kit g gaps order made c.requires.sound c.requires.order k)
 
-pub areas_of-requires-clause-aligned : goal.areas_of-requires-clause-aligned
-areas_of-requires-clause-aligned c =
+pub lay_lists-requires-clause-once : goal.lay_lists-requires-clause-once
+lay_lists-requires-clause-once c =
+    let kit = c.args.kit.now in
     let g = c.args.graph.now in
-    let parts : c.deref-2.result.now ≡ text_line g c.args.order.now = c.deref-2.ensures.value ∙ c.in_ok-parts.ensures in
-    rw parts (All-weaker (IsPiecePart (length g.pieces)) (λ x. 0 < x.align) (λ x p. omega (arith, p.align.2, pow_pos p.align.0)) (text_line g c.args.order.now)
-    (All-from_recursion (IsPiecePart (length g.pieces)) (text_line g c.args.order.now) (line_pieces c.args.kit.now g c.requires.simple c.args.order.now)))
+    let gaps = option_copied c.args.gaps in
+    let order = c.args.order.now in
+    let made = c.args.made.now in
+    let lists = c.deref.result.now in
+    let s : AreSpreads kit g gaps order made lists = subst (AreSpreads kit g gaps order made) (sym c.deref.ensures.value) c.in_ok-lists.ensures in
+    subst AreOnce (sym (lines_listed kit g gaps order made lists s)) (lines_once kit g c.requires.sound.pieces order c.requires.order gaps made)
+
+pub lay_lists-requires-clause-room : goal.lay_lists-requires-clause-room
+lay_lists-requires-clause-room c =
+    let kit = c.args.kit.now in
+    let g = c.args.graph.now in
+    let gaps = option_copied c.args.gaps in
+    let order = c.args.order.now in
+    let made = c.args.made.now in
+    let lists = c.deref.result.now in
+    let s : AreSpreads kit g gaps order made lists = subst (AreSpreads kit g gaps order made) (sym c.deref.ensures.value) c.in_ok-lists.ensures in
+    subst (λ (l : List LinePart). room l < 4611686018427387904) (sym (lines_listed kit g gaps order made lists s))
+    (lines_room kit g gaps order made c.requires.sound c.requires.order c.requires.gaps c.requires.made)
+
+pub returns-then-stops-gt-SPAN_LIMIT-clause-err : goal.returns-then-stops-gt-SPAN_LIMIT-clause-err
+returns-then-stops-gt-SPAN_LIMIT-clause-err c =
+    let kit = c.args.kit.now in
+    let g = c.args.graph.now in
+    let gaps = option_copied c.args.gaps in
+    let order = c.args.order.now in
+    let made = c.args.made.now in
+    let lists = c.deref.result.now in
+    let s : AreSpreads kit g gaps order made lists = subst (AreSpreads kit g gaps order made) (sym c.deref.ensures.value) c.in_ok-lists.ensures in
+    let ended : kit.base + c.in_ok-stops.stops.end ≡ reach (class_from kit g gaps order made Bss) (class_line kit g gaps order made Bss) =
+    c.in_ok-stops.ensures.end ∙ end_is kit g gaps order made lists s in
+    let whole : span kit g gaps order made ≡ c.in_ok-stops.stops.end = omega (arith, ended) in
+    let past = lt-ltb SPAN_LIMIT c.in_ok-stops.stops.end (omega (arith, c.if-stops-gt-SPAN_LIMIT.true)) in
+    inr (rw (whole, past) refl)
 
 pub returns : goal.returns
 returns c =
     let kit = c.args.kit.now in
     let g = c.args.graph.now in
+    let gaps = option_copied c.args.gaps in
     let order = c.args.order.now in
-    let simple = c.requires.simple in
-    let page = c.requires.kit.base_page in
-    let parts : c.deref.result.now ≡ text_line g order = c.deref.ensures.value ∙ c.in_ok-parts.ensures in
-    let again : c.deref-2.result.now ≡ text_line g order = c.deref-2.ensures.value ∙ c.in_ok-parts.ensures in
-    let it = placed_from kit g order simple c.in_ok-areas_of.field-0 c.in_ok-placed_pieces.field-0 c.deref-3.result.now c.deref-2.result.now again
-    c.in_ok-areas_of.ensures c.in_ok-placed_pieces.ensures
-    (λ n h. ap (λ (l : List ℕ). get_or l n 0) c.deref-3.ensures.value
-    ∙ (c.in_ok-addresses.ensures.addresses n (omega (arith, c.in_ok-addresses.ensures.count, ap length c.items.ensures)) ∙ ap (λ l. address_in kit.base l n) (parts ∙ sym again))) in
-    let small : span kit g None order no_made ≤ 536870912 =
-    omega (
-      arith,
-      span_from kit g order simple c.in_ok-addresses.size page.0 page.1 (rw parts at c.in_ok-addresses.ensures.reach),
-      c.next_multiple_of-found.ensures.value,
-      c.if-found-gt-SPAN_LIMIT.false,
-    ) in
+    let made = c.args.made.now in
+    let sound = c.requires.sound in
+    let o = c.requires.order in
+    let lists = c.deref.result.now in
+    let addresses = c.in_ok-stops.stops.addresses.items in
+    let areas = c.in_ok-stops.stops.areas.items in
+    let s : AreSpreads kit g gaps order made lists = subst (AreSpreads kit g gaps order made) (sym c.deref.ensures.value) c.in_ok-lists.ensures in
+    let ended : kit.base + c.in_ok-stops.stops.end ≡ reach (class_from kit g gaps order made Bss) (class_line kit g gaps order made Bss) =
+    c.in_ok-stops.ensures.end ∙ end_is kit g gaps order made lists s in
+    let small : span kit g gaps order made ≤ SPAN_LIMIT = omega (arith, ended, c.if-stops-gt-SPAN_LIMIT.false) in
+    let p : Placement = record { base = kit.base; areas = c.from_vec.result; pieces = c.in_ok-pieces.pieces } in
+    let lists_count = ap length c.deref.ensures.value in
+    let kept_count : c.len.result - 1 ≡ 15 + length kit.runs = omega (arith, c.len.ensures, s.count, lists_count) in
+    let cut : c.from_vec.result ≡ take (15 + length kit.runs) areas = c.from_vec.ensures ∙ (c.truncate.ensures.items ∙ ap (λ n. take n areas) kept_count) in
+    let enough : 15 + length kit.runs ≤ length areas = omega (arith, c.in_ok-stops.ensures.areas, s.count) in
+    let count : length p.areas ≡ 15 + length kit.runs = ap length cut ∙ length-take-le (15 + length kit.runs) areas enough in
+    let kept = λ (n : ℕ) (l : n < 15 + length kit.runs). ap (λ (xs : List AreaAt). slice_get xs n) cut ∙ get_take (15 + length kit.runs) areas n l in
+    let pieces : p.pieces ≡ laid_pieces g gaps addresses = c.in_ok-pieces.ensures ∙ ap (laid_pieces g gaps) c.deref-2.ensures.value in
     record {
-      laid = rw c.requires.no_made (subst (λ p. Laid p kit g None order no_made) (sym it) (laid kit g order c.requires.kit simple c.requires.order small));
-      names = subst (λ p. NamesPieces p g None) (sym it) (names kit g order simple);
-      placed = rw c.requires.no_made (it ∙ sym (placed_is kit g order simple));
-      small = rw c.requires.no_made small;
+      laid = laid_is kit g gaps order made c.requires.kit sound o small lists s addresses areas c.in_ok-stops.ensures.laid c.in_ok-stops.ensures.addresses p refl count kept pieces;
+      names = names kit g gaps order made c.requires.kit sound o small lists s addresses areas c.in_ok-stops.ensures.laid c.in_ok-stops.ensures.addresses p refl count kept pieces;
+      placed = placed_is kit g gaps order made c.requires.kit sound o small lists s addresses areas c.in_ok-stops.ensures.laid c.in_ok-stops.ensures.addresses p refl count kept pieces;
+      small = small;
       err = tt;
     }
