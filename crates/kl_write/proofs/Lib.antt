@@ -1,0 +1,13 @@
+pub mod FileBytes
+pub mod Headers
+pub mod KernelFile
+pub mod Stands
+pub mod Homes
+pub mod LaidParts
+pub mod SoundLaid
+pub mod AreaFound
+pub mod LawBytes
+pub mod SlotWords
+pub mod WholeOrder
+pub mod LawFields
+pub mod LawExample

@@ -1,0 +1,6 @@
+//! Writes the images of kernels.
+#![tactic(auto)]
+
+mod laws;
+
+pub use laws::image_carries;
