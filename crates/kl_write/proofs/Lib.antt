@@ -11,3 +11,4 @@ pub mod SlotWords
 pub mod WholeOrder
 pub mod LawFields
 pub mod LawExample
+pub mod Shown

@@ -1,1 +1,2 @@
 pub mod LaidKernel
+pub mod Windows

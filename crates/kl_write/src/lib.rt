@@ -2,5 +2,6 @@
 #![tactic(auto)]
 
 mod laws;
+mod window;
 
 pub use laws::image_carries;
