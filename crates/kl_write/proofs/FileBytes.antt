@@ -9,7 +9,7 @@ use Rattle.kl_elf.specs.declared.records.Phdr.{Phdr}
 use Rattle.kl_model.specs.Areas.{class_number}
 use Rattle.kl_model.specs.Memory.{segments}
 use Rattle.kl_model.specs.Carries.{HasByte, InArea, class_size, ends_at, file_end, is_in_file, offset_for, permission, segment_of, segments_for, segments_of}
-use Rattle.kl_model.specs.Image.{byte_at, class_on, head_bytes, image_bytes, image_size, is_within, phdrs}
+use Rattle.kl_model.specs.Image.{byte_at, class_on, head_bytes, image_byte, image_bytes, image_size, is_within, phdrs}
 use Rattle.kl_model.specs.Laid.{area_at}
 use Rattle.kl_model.specs.Line.{classes}
 use Rattle.kl_model.specs.Lists.{only_if}
@@ -126,21 +126,24 @@ module _ (kit : Kit) (inputs : List Input) (g : Graph) (gaps : Option Gaps) (p :
       let some : 0 < (segment_of p c).filesz = rw size (omega (arith, w.0, w.1)) in
       omega (arith, e, size, past, w.0, w.1, file_end_is (segment_of p c) some, ends-in n (segments_of p) (segment_of p c) (in_segments p c a w))
 
-  class_on_is : (c : Class) (a : ℕ) → is_in_file c ≡ true → InArea p (class_number c) a → class_on kit inputs g gaps p (4096 + (a - p.base)) ≡ Some c
+  pub class_on_is : (c : Class) (a : ℕ) → is_in_file c ≡ true → InArea p (class_number c) a → class_on kit inputs g gaps p (4096 + (a - p.base)) ≡ Some c
   class_on_is c a f w =
       ap (λ k. find (λ c. is_in_file c && is_within (offset_for k p c) (class_size p c) (4096 + (a - p.base))) classes) kernel ∙ find_file_class p c a o f w
 
   -- the byte of the file at the place of an address of a class
   module _ (short : length (head_bytes kit inputs g gaps p) ≤ 4096) where
-    pub byte_there : (c : Class) (a : ℕ) → is_in_file c ≡ true → InArea p (class_number c) a
-        → slice_index (image_bytes kit inputs g gaps p) (4096 + (a - p.base)) ≡ byte_at kit inputs g gaps p c a
-    byte_there c a f w =
+    pub image_there : (c : Class) (a : ℕ) → is_in_file c ≡ true → InArea p (class_number c) a → image_byte kit inputs g gaps p (4096 + (a - p.base)) ≡ byte_at kit inputs g gaps p c a
+    image_there c a f w =
         let past = start_past_base p c o in
         let q = 4096 + (a - p.base) in
         let behind : nat_lt q (length (head_bytes kit inputs g gaps p)) ≡ false = le-ltb q (length (head_bytes kit inputs g gaps p)) (omega (arith, short)) in
         let offset : offset_for kit.kind p c ≡ 4096 + ((area_at p (class_number c)).start - p.base) = ap (λ k. offset_for k p c) kernel in
         let back : (area_at p (class_number c)).start + (q - offset_for kit.kind p c) ≡ a = omega (arith, offset, past, w.0) in
-        image_at kit inputs g gaps p q (in_size c a f w) ∙ rw (behind, class_on_is c a f w, back) refl
+        rw (behind, class_on_is c a f w, back) refl
+
+    pub byte_there : (c : Class) (a : ℕ) → is_in_file c ≡ true → InArea p (class_number c) a
+        → slice_index (image_bytes kit inputs g gaps p) (4096 + (a - p.base)) ≡ byte_at kit inputs g gaps p c a
+    byte_there c a f w = image_at kit inputs g gaps p (4096 + (a - p.base)) (in_size c a f w) ∙ image_there c a f w
 
     module _ (headers : segments (image_bytes kit inputs g gaps p) ≡ segments_of p) where
       -- memory holds the byte of the class

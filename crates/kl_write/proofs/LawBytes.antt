@@ -156,7 +156,7 @@ module _ (kit : Kit) (inputs : List Input) (g : Graph) (gaps : Option Gaps) (ord
       part_is kit inputs g gaps p are_apart r.0 x a r.1 w2 ∙ ap Some r.2
 
   -- a gap holds padding
-  gap_part : (z : Gaps) (c : Class) → gaps ≡ Some z → In (record { body = body.Gap c; size = gap_size z c; align = 16 }) (every_part g gaps made)
+  pub gap_part : (z : Gaps) (c : Class) → gaps ≡ Some z → In (record { body = body.Gap c; size = gap_size z c; align = 16 }) (every_part g gaps made)
   gap_part z c e =
       in_right (each g.pieces (λ n x. piece_part n x ∷ []))
       (in_left (made_parts 6 made.stubs 16 ++ (made_parts 8 made.tables 8 ++ (made_parts 13 made.got 8 ++ made_parts 14 made.dynamic 8))) (rw e (four c)))
@@ -167,24 +167,27 @@ module _ (kit : Kit) (inputs : List Input) (g : Graph) (gaps : Option Gaps) (ord
       four Rwdata = there (there here)
       four Bss = there (there (there here))
 
+  pub gap_area : (z : Gaps) (c : Class) (k : ℕ) → gaps ≡ Some z → k < gap_size z c → InArea p (class_number c) (place_of p g (body.Gap c) + k)
+  gap_area z c k e l =
+      let w = stands_within c (record { body = body.Gap c; size = gap_size z c; align = 16 }) (gap_in kit g gaps order made z c e) in
+      (omega (arith, w.0), omega (arith, w.1, l))
+
+  pub gap_at : (z : Gaps) (c : Class) (k : ℕ) → gaps ≡ Some z → k < gap_size z c → byte_at kit inputs g gaps p c (place_of p g (body.Gap c) + k) ≡ padding c
+  gap_at z c k e l =
+      let there_is = part_there (record { body = body.Gap c; size = gap_size z c; align = 16 }) (place_of p g (body.Gap c) + k) (gap_part z c e) (omega arith, omega (arith, l)) in
+      rw there_is refl
+
   gap_held : (z : Gaps) (c : Class) (k : ℕ) → gaps ≡ Some z → k < gap_size z c → HasByte img (place_of p g (body.Gap c) + k) (padding c) c
   gap_held z c k e l = go c l
     where
-      area : (c : Class) → k < gap_size z c → InArea p (class_number c) (place_of p g (body.Gap c) + k)
-      area c l =
-          let w = stands_within c (record { body = body.Gap c; size = gap_size z c; align = 16 }) (gap_in kit g gaps order made z c e) in
-          (omega (arith, w.0), omega (arith, w.1, l))
-
       byte : (c : Class) → k < gap_size z c → is_in_file c ≡ true → HasByte img (place_of p g (body.Gap c) + k) (padding c) c
-      byte c l f =
-          let there_is = part_there (record { body = body.Gap c; size = gap_size z c; align = 16 }) (place_of p g (body.Gap c) + k) (gap_part z c e) (omega arith, omega (arith, l)) in
-          byte_held c (place_of p g (body.Gap c) + k) (padding c) f (area c l) (rw there_is refl)
+      byte c l f = byte_held c (place_of p g (body.Gap c) + k) (padding c) f (gap_area z c k e l) (gap_at z c k e l)
 
       go : (c : Class) → k < gap_size z c → HasByte img (place_of p g (body.Gap c) + k) (padding c) c
       go Text l = byte Text l refl
       go Rodata l = byte Rodata l refl
       go Rwdata l = byte Rwdata l refl
-      go Bss l = bss_held (place_of p g (body.Gap Bss) + k) (area Bss l)
+      go Bss l = bss_held (place_of p g (body.Gap Bss) + k) (gap_area z Bss k e l)
 
   gaps_held : (z : Option Gaps) → gaps ≡ z → IfSome z (λ z. (c : Class) (k : ℕ) → k < gap_size z c → HasByte img (place_of p g (body.Gap c) + k) (padding c) c)
   gaps_held None e = tt
@@ -198,7 +201,7 @@ module _ (kit : Kit) (inputs : List Input) (g : Graph) (gaps : Option Gaps) (ord
   }
 
   -- two classes have no address in common
-  one_class : (c d : Class) (a : ℕ) → InArea p (class_number c) a → InArea p (class_number d) a → c ≡ d
+  pub one_class : (c d : Class) (a : ℕ) → InArea p (class_number c) a → InArea p (class_number d) a → c ≡ d
   one_class c d a u v =
       elim (cases_lt (class_number c) (class_number d)) [
         | inl l ↦ absurd (omega (arith, u.1, v.0, ends_before p c d in_order_too l))
@@ -209,7 +212,7 @@ module _ (kit : Kit) (inputs : List Input) (g : Graph) (gaps : Option Gaps) (ord
       ]
 
   -- no part has an address that no part of its class has
-  no_part : (c : Class) (a : ℕ) → InArea p (class_number c) a → ¬ InPart p g (class_line kit g gaps order made c) a → part_on kit inputs g gaps p a ≡ None
+  pub no_part : (c : Class) (a : ℕ) → InArea p (class_number c) a → ¬ InPart p g (class_line kit g gaps order made c) a → part_on kit inputs g gaps p a ≡ None
   no_part c a w free =
       find_none (λ (x : LinePart). is_within (place_of p g x.body) x.size a) (every_part g gaps made) (λ x i.
       elim (cases_Bool (is_within (place_of p g x.body) x.size a)) [
@@ -245,7 +248,7 @@ module _ (kit : Kit) (inputs : List Input) (g : Graph) (gaps : Option Gaps) (ord
   base_small = let b = laid.base in omega (arith, b, limit)
 
   -- the areas `init` and `fini` lie in text
-  text_area : (n a : ℕ) → In (area_spread g n) (spreads kit g gaps order made Text) → InArea p n a → InArea p 0 a
+  pub text_area : (n a : ℕ) → In (area_spread g n) (spreads kit g gaps order made Text) → InArea p n a → InArea p 0 a
   text_area n a i w =
       let stands = (four_classes kit g gaps order made p laid small limit sound whole).stands Text in
       let from = text_from kit g in

@@ -10,7 +10,7 @@ use Rattle.kl_base.specs.declared.class.Class.{Class}
 use Rattle.kl_base.specs.declared.class.Class.TheVariants.{Text, Rodata, Rwdata, Bss}
 use Rattle.kl_model.specs.Carries.{CarriesGraph, HasByte, InArea, LeadsBy, MadeHolds, NamesPieces, Reached, SlotsHold, is_in_file, kernel_places, piece_at, no_piece, segments_of}
 use Rattle.kl_model.specs.Faults.{does_fit, range_faults}
-use Rattle.kl_model.specs.Image.{head_bytes, image_bytes, part_byte}
+use Rattle.kl_model.specs.Image.{byte_at, head_bytes, image_bytes, part_byte}
 use Rattle.kl_model.specs.Kits.{is_kernel}
 use Rattle.kl_model.specs.Laid.{Laid, area_at, no_area, place_of, span}
 use Rattle.kl_model.specs.Leads.{address_of, field_address, field_value, filed_value, is_blank, led_to, target_slot, value_target}
@@ -104,7 +104,7 @@ way_is kind (Name n) e s = cc
 way_is kind Zero e s = refl
 way_is kind Gone e s = cc
 
-in_file : (c : Class) → c ≢ Bss → is_in_file c ≡ true
+pub in_file : (c : Class) → c ≢ Bss → is_in_file c ≡ true
 in_file Text h = refl
 in_file Rodata h = refl
 in_file Rwdata h = refl
@@ -130,13 +130,13 @@ module _ (kit : Kit) (inputs : List Input) (g : Graph) (gaps : Option Gaps) (ord
   abbrev img : List ℕ
   img = image_bytes kit inputs g gaps p
 
-  is_ordered : InOrder p
+  pub is_ordered : InOrder p
   is_ordered = ordered kit g gaps order made p laid small limit sound whole
 
-  is_top : (area_at p 3).end ≤ p.base + SPAN_LIMIT
+  pub is_top : (area_at p 3).end ≤ p.base + SPAN_LIMIT
   is_top = top kit g gaps order made p laid small limit sound whole
 
-  base_limit : p.base ≤ BASE_LIMIT
+  pub base_limit : p.base ≤ BASE_LIMIT
   base_limit = let b = laid.base in omega (arith, b, limit)
 
   -- the address of a target is a number of 64 bits
@@ -168,10 +168,10 @@ module _ (kit : Kit) (inputs : List Input) (g : Graph) (gaps : Option Gaps) (ord
   entry_small None h = tt
   entry_small (Some t) h = address_small t h
 
-  short : length (head_bytes kit inputs g gaps p) ≤ 4096
+  pub short : length (head_bytes kit inputs g gaps p) ≤ 4096
   short = short_headers p is_ordered base_limit is_top kit inputs g gaps kernel (entry_small g.entry sound.entry)
 
-  read : segments img ≡ segments_of p
+  pub read : segments img ≡ segments_of p
   read = headers p is_ordered base_limit is_top kit inputs g gaps kernel (entry_small g.entry sound.entry)
 
   held_byte : (a b : ℕ) (c : Class) → HasByte img a b c → byte_in (mem img) a ≡ b
@@ -188,18 +188,22 @@ module _ (kit : Kit) (inputs : List Input) (g : Graph) (gaps : Option Gaps) (ord
     s = sound.fields i d h
 
     -- it lies in its piece
-    inside : f.offset + width f.kind ≤ (piece_at g f.piece).size
+    pub inside : f.offset + width f.kind ≤ (piece_at g f.piece).size
     inside = let x = (sound.pieces f.piece no_piece s.piece).short in let y = s.inside in omega (arith, x, y)
 
     addend_small : cast_unsigned w64 f.addend < 2 ^ 64
     addend_small = cast_small f.addend s.addend
 
     -- a field's bytes are those of its value
-    field_byte : (j : ℕ) → j < width f.kind → byte_in (mem img) (at + j) ≡ byte_of (filed_value kit p g f) j
-    field_byte j l =
+    pub field_at : (j : ℕ) → j < width f.kind → part_byte kit inputs g gaps p (body.Piece f.piece) (f.offset + j) ≡ byte_of (filed_value kit p g f) j
+    field_at j l =
         let here_is = field_is g sound.apart i d (f.offset + j) h (omega arith, omega (arith, l)) in
         let back : f.offset + j - f.offset ≡ j = omega arith in
-        let byte : part_byte kit inputs g gaps p (body.Piece f.piece) (f.offset + j) ≡ byte_of (filed_value kit p g f) j = rw (here_is, back) refl in
+        rw (here_is, back) refl
+
+    field_byte : (j : ℕ) → j < width f.kind → byte_in (mem img) (at + j) ≡ byte_of (filed_value kit p g f) j
+    field_byte j l =
+        let byte = field_at j l in
         let place : at + j ≡ place_of p g (body.Piece f.piece) + (f.offset + j) = omega arith in
         let held = piece_held kit inputs g gaps order p kernel laid small limit sound whole short read f.piece (f.offset + j) s.piece (omega (arith, inside, l)) (in_file (piece_at g f.piece).class s.class) in
         rw place (held_byte (place_of p g (body.Piece f.piece) + (f.offset + j)) (part_byte kit inputs g gaps p (body.Piece f.piece) (f.offset + j)) (piece_at g f.piece).class held ∙ byte)
@@ -245,13 +249,13 @@ module _ (kit : Kit) (inputs : List Input) (g : Graph) (gaps : Option Gaps) (ord
           }
 
   -- slots
-  got_size : made.got ≡ 8 * length (slots g)
+  pub got_size : made.got ≡ 8 * length (slots g)
   got_size = ap (λ k. (made_for k kit g).got) kernel
 
-  got_part : 0 < made.got → In (record { body = body.Area 13; size = made.got; align = 8 }) (made_parts 13 made.got 8)
+  pub got_part : 0 < made.got → In (record { body = body.Area 13; size = made.got; align = 8 }) (made_parts 13 made.got 8)
   got_part h = let some : nat_eq made.got 0 ≡ false = ne_eqb made.got 0 (λ e. omega (arith, e, h)) in rw some here
 
-  got_area : (q : ℕ) → q < made.got → InArea p 1 ((area_at p 13).start + q)
+  pub got_area : (q : ℕ) → q < made.got → InArea p 1 ((area_at p 13).start + q)
   got_area q l =
       let i = got_in kit g gaps order made (record { body = body.Area 13; size = made.got; align = 8 }) (got_part (omega (arith, l))) in
       let i1 : In (record { body = body.Area 13; size = made.got; align = 8 }) (class_line kit g gaps order made Rodata) =
@@ -259,16 +263,21 @@ module _ (kit : Kit) (inputs : List Input) (g : Graph) (gaps : Option Gaps) (ord
       let w = stands_within kit inputs g gaps order p kernel laid small limit sound whole short read Rodata (record { body = body.Area 13; size = made.got; align = 8 }) i1 in
       (omega (arith, w.0), omega (arith, w.1, l))
 
-  got_byte : (q : ℕ) → q < made.got → byte_in (mem img) ((area_at p 13).start + q) ≡ slice_index (got_bytes kit g p) q
-  got_byte q l =
+  -- the byte of the class at an address of the table
+  pub got_at : (q : ℕ) → q < made.got → byte_at kit inputs g gaps p Rodata ((area_at p 13).start + q) ≡ slice_index (got_bytes kit g p) q
+  got_at q l =
       let x : LinePart = record { body = body.Area 13; size = made.got; align = 8 } in
       let there_is = part_there kit inputs g gaps order p kernel laid small limit sound whole short read x ((area_at p 13).start + q)
       (in_right (each g.pieces (λ n x. piece_part n x ∷ [])) (in_right (flat_map (gap_parts gaps) classes) (in_right (made_parts 6 made.stubs 16) (in_right (made_parts 8 made.tables 8)
       (in_left (made_parts 14 made.dynamic 8) (got_part (omega (arith, l))))))))
       (omega arith, omega (arith, l)) in
       let back : (area_at p 13).start + q - (area_at p 13).start ≡ q = omega arith in
+      rw (there_is, back) refl
+
+  got_byte : (q : ℕ) → q < made.got → byte_in (mem img) ((area_at p 13).start + q) ≡ slice_index (got_bytes kit g p) q
+  got_byte q l =
       held_byte ((area_at p 13).start + q) (slice_index (got_bytes kit g p) q) Rodata
-      (byte_held kit inputs g gaps order p kernel laid small limit sound whole short read Rodata ((area_at p 13).start + q) (slice_index (got_bytes kit g p) q) refl (got_area q l) (rw (there_is, back) refl))
+      (byte_held kit inputs g gaps order p kernel laid small limit sound whole short read Rodata ((area_at p 13).start + q) (slice_index (got_bytes kit g p) q) refl (got_area q l) (got_at q l))
 
   slot_target : (k : ℕ) → k < length (slots g) → IsSoundTarget kit g (get_or (slots g) k Zero)
   slot_target k l =

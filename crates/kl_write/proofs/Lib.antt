@@ -12,3 +12,6 @@ pub mod WholeOrder
 pub mod LawFields
 pub mod LawExample
 pub mod Shown
+pub mod Painted
+pub mod RightWrites
+pub mod ImageWrites

@@ -33,7 +33,7 @@ has_written b w q h = rw (within_is w.place w.count q h) refl
 pub not_written : (b : ℕ) (w : Write) (q : ℕ) → Outside w.place w.count q → written b (w ∷ []) q ≡ b
 not_written b w q h = rw (within_not w.place w.count q h) refl
 
-cases_within : (at n q : ℕ) → Within at n q ⊎ Outside at n q
+pub cases_within : (at n q : ℕ) → Within at n q ⊎ Outside at n q
 cases_within at n q =
     elim (cases_lt q at) [
       | inl l ↦ inr (inl l)

@@ -41,7 +41,7 @@ in_get (x ∷ xs) zero d l = here
 in_get (x ∷ xs) (suc k) d l = there (in_get xs k d (omega (arith, l)))
 
 -- a piece among the parts
-in_pieces : (k : ℕ) (xs : List Piece) (x : LinePart) → In x (each_from k (λ n y. piece_part n y ∷ []) xs)
+pub in_pieces : (k : ℕ) (xs : List Piece) (x : LinePart) → In x (each_from k (λ n y. piece_part n y ∷ []) xs)
     → (i : ℕ) × (i < length xs) × (x ≡ piece_part (k + i) (get_or xs i no_piece))
 in_pieces k [] x i = elim i [ ]
 in_pieces k (y ∷ ys) x here = (0, omega arith, (let z : k + 0 ≡ k = omega arith in rw z refl))

@@ -1,2 +1,3 @@
 pub mod LaidKernel
 pub mod Windows
+pub mod Writes
