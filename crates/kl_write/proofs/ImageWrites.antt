@@ -37,6 +37,7 @@ use Rattle.kl_model.proofs.ImageBytes.{within_is}
 use Rattle.kl_write.proofs.FileBytes.{class_on_is, in_classes, within_not}
 use Rattle.kl_write.proofs.LawBytes.{find_none, one_class, stands_within, text_area, within_of}
 use Rattle.kl_write.proofs.LawFields.{base_limit, got_size, read, short}
+use Rattle.kl_write.proofs.Places.{le_unwrapped}
 use Rattle.kl_write.proofs.Painted.{Gives, all_same, any_none, find_in, in_one, in_only, some_same}
 use Rattle.kl_write.proofs.RightWrites.{at_address, image, in_order, right_field, right_gap, right_piece, right_slot}
 use Rattle.kl_write.proofs.Shown.{cases_within, has_written, not_written, written-append}
@@ -65,13 +66,6 @@ same_within p s n a l h =
       | inl w ↦ let low = w.0 in let high = w.1 in within_is (file_place p s) n (file_place p a) (omega (arith, l, low), omega (arith, l, h, high)) ∙ sym (within_is s n a w)
       | inr (inl o) ↦ within_not (file_place p s) n (file_place p a) (inl (omega (arith, l, h, o))) ∙ sym (within_not s n a (inl o))
       | inr (inr o) ↦ within_not (file_place p s) n (file_place p a) (inr (omega (arith, l, h, o))) ∙ sym (within_not s n a (inr o))
-    ]
-
-le_unwrapped : (p : Placement) (a : ℕ) → p.base < 2 ^ 64 → p.base ≤ unwrapped p a
-le_unwrapped p a b =
-    elim (cases_lt a p.base) [
-      | inl l ↦ let t : nat_lt a p.base ≡ true = lt-ltb a p.base l in rw t (omega (arith, b))
-      | inr l ↦ let t : nat_lt a p.base ≡ false = le-ltb a p.base l in rw t l
     ]
 
 -- text is padded by nops in `init` and `fini`

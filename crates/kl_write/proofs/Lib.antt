@@ -15,3 +15,4 @@ pub mod Shown
 pub mod Painted
 pub mod RightWrites
 pub mod ImageWrites
+pub mod Places

@@ -82,3 +82,16 @@ module _ (old new : List ℕ) (at : ℕ) (w : Write) (from n : ℕ) (left : at �
       let b : from + j ≡ at + k = omega (arith, low) in
       let same : get_or new (from - at + j) 0 ≡ w.byte (from + j - w.place) = bytes j (omega (arith, low, high)) in
       rw (a, b) at same) outside
+
+-- a write that is the same at each of its places
+pub shows_as : (old new : List ℕ) (at : ℕ) (w v : Write) → Shows old new at (w ∷ []) → w.place ≡ v.place → w.count ≡ v.count → ((k : ℕ) → k < w.count → w.byte k ≡ v.byte k)
+    → Shows old new at (v ∷ [])
+shows_as old new at w v s place count bytes =
+    shows_one old new at v s.long
+    (λ k h i.
+    let low = i.0 in
+    let high = i.1 in
+    let own : Within w.place w.count (at + k) = (omega (arith, place, low), omega (arith, place, count, high)) in
+    let far : at + k - w.place ≡ at + k - v.place = ap (λ n. at + k - n) place in
+    s.bytes k h ∙ (has_written (get_or old k 0) w (at + k) own ∙ (bytes (at + k - w.place) (omega (arith, place, low, count, high)) ∙ ap v.byte far)))
+    (λ k h o. s.bytes k h ∙ not_written (get_or old k 0) w (at + k) (elim o [ inl l ↦ inl (omega (arith, place, l)) | inr l ↦ inr (omega (arith, place, count, l)) ]))

@@ -2,6 +2,9 @@
 #![tactic(auto)]
 
 mod laws;
+mod padding;
+mod pieces;
+mod place;
 mod window;
 
 pub use laws::image_carries;
