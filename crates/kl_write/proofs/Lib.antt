@@ -16,3 +16,4 @@ pub mod Painted
 pub mod RightWrites
 pub mod ImageWrites
 pub mod Places
+pub mod LowBytes

@@ -6,6 +6,8 @@ use Rattle.kl_model.specs.Areas.{class_number}
 use Rattle.kl_model.specs.Carries.{piece_at}
 use Rattle.kl_model.specs.Laid.{area_at, place_of}
 use Rattle.kl_model.specs.Line.{gap_size}
+use Rattle.kl_model.specs.Relocations.{width}
+use Rattle.kl_model.specs.declared.graph.Field.{Field}
 use Rattle.kl_model.specs.declared.graph.Graph.{Graph}
 use Rattle.kl_model.specs.declared.place.Body.TheVariants as body
 use Rattle.kl_model.specs.declared.place.Gaps.{Gaps}
@@ -33,3 +35,11 @@ pub record AreGapsInSpan (g : Graph) (z : Gaps) (p : Placement) : Type 0 where
 -- no piece has more bytes in the file of its input than it has in the image
 abbrev pub AreShort : Graph → Type 0
 AreShort g = All (λ x. x.bytes.len ≤ x.size) g.pieces
+
+-- every field lies in a piece
+pub record IsFieldInside (g : Graph) (f : Field) : Type 0 where
+  pub piece : f.piece < length g.pieces
+  pub inside : f.offset + width f.kind ≤ (piece_at g f.piece).size
+
+abbrev pub AreFieldsInside : Graph → Type 0
+AreFieldsInside g = All (IsFieldInside g) g.fields

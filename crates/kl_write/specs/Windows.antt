@@ -1,6 +1,7 @@
 -- Writes into a file, and a window of the file that shows them. For the contracts inside this crate alone.
 use Rattle.std.specs.Prelude.{ℕ, ◌+◌, ◌-◌, ◌≡◌, ◌<◌, cond, if◌then◌else◌, nat_lt, List, [], ◌∷◌, length, slice_index}
 use Rattle.kl_model.specs.Image.{is_within}
+use Rattle.kl_model.specs.Written.{byte_of}
 
 -- so many bytes from a place of the file on
 pub record Write : Type 0 where
@@ -8,7 +9,7 @@ pub record Write : Type 0 where
   pub count : ℕ
   pub byte : ℕ → ℕ
 
--- a text, one byte so many times, and a text with zeros behind it
+-- a text, one byte so many times, a text with zeros behind it, and the low bytes of a number
 abbrev pub text_from : ℕ → List ℕ → Write
 text_from place bytes = record { place = place; count = length bytes; byte = slice_index bytes }
 
@@ -17,6 +18,9 @@ same_from place count byte = record { place = place; count = count; byte = λ k.
 
 abbrev pub padded_from : ℕ → ℕ → List ℕ → Write
 padded_from place count bytes = record { place = place; count = count; byte = λ k. if nat_lt k (length bytes) then slice_index bytes k else 0 }
+
+abbrev pub number_from : ℕ → ℕ → ℕ → Write
+number_from place width n = record { place = place; count = width; byte = byte_of n }
 
 -- the byte at a place of the file behind writes: that of the last one that has the place, and else what was there before
 abbrev pub written : ℕ → List Write → ℕ → ℕ

@@ -1,6 +1,6 @@
 -- What is written into the image of a kernel, one after another: padding, pieces, gaps, slots, fields and headers. For the contracts
 -- inside this crate alone.
-use Rattle.std.specs.Prelude.{ℕ, ◌+◌, ◌-◌, List, [], ◌∷◌, ◌++◌, flat_map, Option, Some, None}
+use Rattle.std.specs.Prelude.{ℕ, pos, ◌+◌, ◌-◌, List, [], ◌∷◌, ◌++◌, flat_map, slice_index, Option, Some, None}
 use Rattle.kl_base.specs.declared.class.Class.{Class}
 use Rattle.kl_base.specs.declared.limits.TheConstants.{PAGE}
 use Rattle.kl_model.specs.Carries.{content, is_in_file, padding}
@@ -12,18 +12,18 @@ use Rattle.kl_model.specs.Lists.{each, only_if}
 use Rattle.kl_model.specs.Relocations.{width}
 use Rattle.kl_model.specs.Slots.{slots}
 use Rattle.kl_model.specs.Tables.{slot_value}
-use Rattle.kl_model.specs.Written.{byte_of}
 use Rattle.kl_model.specs.declared.area.TheConstants as area
 use Rattle.kl_model.specs.declared.graph.Field.{Field}
 use Rattle.kl_model.specs.declared.graph.Graph.{Graph}
 use Rattle.kl_model.specs.declared.graph.Piece.{Piece}
 use Rattle.kl_model.specs.declared.graph.Target.{Target}
+use Rattle.kl_model.specs.declared.graph.Target.TheVariants.{Zero}
 use Rattle.kl_model.specs.declared.kit.Kit.{Kit}
 use Rattle.kl_model.specs.declared.object.Input.{Input}
 use Rattle.kl_model.specs.declared.place.Body.TheVariants as body
 use Rattle.kl_model.specs.declared.place.Gaps.{Gaps}
 use Rattle.kl_model.specs.declared.place.Placement.{Placement}
-use Rattle.kl_write.specs.Windows.{Write, same_from, text_from}
+use Rattle.kl_write.specs.Windows.{Write, number_from, same_from, text_from}
 
 -- where an address stands in the file: a PAGE past its place behind the base
 abbrev pub file_place : Placement → ℕ → ℕ
@@ -53,19 +53,24 @@ gap_writes g None p = []
 gap_writes g (Some z) p = flat_map (gap_write g p z) classes
 
 -- the slots of the global offset table
+abbrev pub address_write : Placement → ℕ → ℕ → List Write
+address_write p k v = number_from (file_place p (slot_place p k)) 8 v ∷ []
+
 abbrev pub slot_write : Kit → Graph → Placement → ℕ → Target → List Write
-slot_write kit g p k t = record { place = file_place p (slot_place p k); count = 8; byte = byte_of (slot_value kit p g t) } ∷ []
+slot_write kit g p k t = address_write p k (slot_value kit p g t)
 
 abbrev pub slot_writes : Kit → Graph → Placement → List Write
 slot_writes kit g p = each (slots g) (slot_write kit g p)
 
--- the values of fields
+-- a value in a field, that of its number among values, and the values of all fields
+abbrev pub value_write : Graph → Placement → Field → ℕ → Write
+value_write g p f v = number_from (file_place p (place_of p g (body.Piece f.piece) + f.offset)) (width f.kind) v
+
+abbrev pub nth_value_write : Graph → Placement → List ℕ → ℕ → Field → List Write
+nth_value_write g p values k f = value_write g p f (slice_index values k) ∷ []
+
 abbrev pub field_write : Kit → Graph → Placement → ℕ → Field → List Write
-field_write kit g p k f = record {
-  place = file_place p (place_of p g (body.Piece f.piece) + f.offset);
-  count = width f.kind;
-  byte = byte_of (filed_value kit p g f);
-} ∷ []
+field_write kit g p k f = value_write g p f (filed_value kit p g f) ∷ []
 
 abbrev pub field_writes : Kit → Graph → Placement → List Write
 field_writes kit g p = each g.fields (field_write kit g p)
@@ -80,3 +85,7 @@ writes kit inputs g gaps p =
     padding_writes p
     ++ (piece_writes inputs g p
     ++ (gap_writes g gaps p ++ (slot_writes kit g p ++ (field_writes kit g p ++ head_write kit inputs g gaps p ∷ []))))
+
+-- what stands past the end of a list
+abbrev pub no_field : Field
+no_field = record { from = record { input = 0; section = 0; index = 0 }; piece = 0; offset = 0; kind = 0; addend = pos 0; target = Zero }

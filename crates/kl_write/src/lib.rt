@@ -2,6 +2,7 @@
 #![tactic(auto)]
 
 mod laws;
+mod numbers;
 mod padding;
 mod pieces;
 mod place;

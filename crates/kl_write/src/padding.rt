@@ -1,15 +1,19 @@
 // The padding of an image.
-ghost use Rattle.std.specs.Prelude.{◌+◌, ◌<◌, ◌^◌, ◌∷◌, [], length, Some, None, Option, IfSome};
-ghost use Rattle.kl_base.specs.declared.class.Class.TheVariants.{Text, Rodata, Rwdata, Bss};
+ghost use Rattle.std.specs.Prelude.{◌≡◌, ◌+◌, ◌<◌, ◌^◌, ◌∷◌, [], length, Some};
+ghost use Rattle.kl_model.specs.Carries.{padding as padding_of};
+ghost use Rattle.kl_model.specs.Laid.{place_of};
+ghost use Rattle.kl_model.specs.Line.{gap_size};
+ghost use Rattle.kl_model.specs.declared.place.Body.TheVariants as body;
 ghost use Rattle.kl_model.specs.declared.area.TheConstants as area;
 ghost use Rattle.kl_write.specs.InSpan.{AreGapsInSpan, IsAreaInSpan};
 ghost use Rattle.kl_write.specs.Windows.{Shows, same_from};
-ghost use Rattle.kl_write.specs.Writes.{area_write, gap_write, gap_writes, padding_writes};
+ghost use Rattle.kl_write.specs.Writes.{area_write, file_place as place_in_file, gap_writes, padding_writes};
 
 use crate::place::file_place;
 use crate::window::fill_window;
-use kl_model::Placement;
-use kl_model::area::{FINI, INIT, INT3, NOP, TEXT};
+use kl_base::Class;
+use kl_model::area::{FINI, INIT, INT3, NOP, TEXT, class_number as number_of};
+use kl_model::{Gaps, Graph, Placement};
 
 /// Pads an area of text.
 fn pad_area(out: &mut [u8], at: usize, placement: &Placement, number: u32, byte: u8)
@@ -36,4 +40,55 @@ pub fn pad(out: &mut [u8], at: usize, placement: &Placement)
     pad_area(out, at, placement, TEXT, INT3);
     pad_area(out, at, placement, INIT, NOP);
     pad_area(out, at, placement, FINI, NOP);
+}
+
+/// The byte by which a class is padded.
+fn padding(class: Class) -> u8
+    ensures { result ≡ padding_of class }
+{
+    match class {
+        Class::Text => INT3,
+        Class::Rodata | Class::Rwdata | Class::Bss => 0,
+    }
+}
+
+/// The size of the gap of a class.
+fn size_of(gaps: &Gaps, class: Class) -> u64
+    ensures { result ≡ gap_size gaps.now class }
+{
+    match class {
+        Class::Text => gaps.text,
+        Class::Rodata => gaps.rodata,
+        Class::Rwdata => gaps.rwdata,
+        Class::Bss => gaps.bss,
+    }
+}
+
+/// Pads the gap of a class.
+fn pad_gap(
+    out: &mut [u8],
+    at: usize,
+    graph: &Graph,
+    gaps: &Gaps,
+    placement: &Placement,
+    class: Class,
+)
+    requires span { AreGapsInSpan graph.now gaps.now placement.now }
+    requires window { at + length out.old < 2 ^ 63 }
+    ensures { Shows out.old out.new at (same_from (place_in_file placement.now (place_of placement.now graph.now (body.Gap class))) (gap_size gaps.now class) (padding_of class) ∷ []) }
+{
+    let index = graph.pieces.items().len() + number_of(class) as usize;
+    let place = file_place(placement, placement.pieces.items()[index].address);
+    fill_window(out, at, place, size_of(gaps, class) as usize, padding(class));
+}
+
+/// Pads the gaps of the classes that have bytes in the file.
+pub fn pad_gaps(out: &mut [u8], at: usize, graph: &Graph, gaps: &Gaps, placement: &Placement)
+    requires span { AreGapsInSpan graph.now gaps.now placement.now }
+    requires window { at + length out.old < 2 ^ 63 }
+    ensures { Shows out.old out.new at (gap_writes graph.now (Some gaps.now) placement.now) }
+{
+    pad_gap(out, at, graph, gaps, placement, Class::Text);
+    pad_gap(out, at, graph, gaps, placement, Class::Rodata);
+    pad_gap(out, at, graph, gaps, placement, Class::Rwdata);
 }

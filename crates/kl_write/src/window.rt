@@ -1,7 +1,7 @@
 // Parts of a file, written into a window of it.
 ghost use Rattle.std.specs.Prelude.{◌+◌, ℕ, ◌≡◌, ◌<◌, ◌≤◌, ◌^◌, ◌∷◌, [], length, slice_index};
 ghost use Rattle.kl_le.specs.Bytes.{ChangesWithin, Within};
-ghost use Rattle.kl_write.specs.Windows.{Shows, padded_from, same_from, text_from};
+ghost use Rattle.kl_write.specs.Windows.{Shows, number_from, padded_from, same_from, text_from};
 
 use kl_le::put_bytes;
 
@@ -51,4 +51,14 @@ pub fn put_padded(out: &mut [u8], at: usize, place: usize, count: usize, bytes: 
 {
     put_window(out, at, place, bytes);
     fill_window(out, at, place + bytes.len(), count - bytes.len(), 0);
+}
+
+/// The same of the low bytes of a number, the lowest first.
+pub fn put_number(out: &mut [u8], at: usize, place: usize, width: usize, value: u64)
+    requires width { width ≤ 8 }
+    requires part { place + width < 2 ^ 63 }
+    requires window { at + length out.old < 2 ^ 63 }
+    ensures { Shows out.old out.new at (number_from place width value ∷ []) }
+{
+    put_window(out, at, place, &value.to_le_bytes()[..width]);
 }
