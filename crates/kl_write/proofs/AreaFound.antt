@@ -19,7 +19,7 @@ reach-append : (from : ℕ) (xs ys : List LinePart) → reach from (xs ++ ys) �
 reach-append from [] ys = refl
 reach-append from (x ∷ xs) ys = reach-append (up from x.align + x.size) xs ys
 
-aligned-of : (s : Spread) (ss : List Spread) → AllAligned ss → In s ss → Aligned s.parts
+pub aligned-of : (s : Spread) (ss : List Spread) → AllAligned ss → In s ss → Aligned s.parts
 aligned-of s [] a i = elim i [ ]
 aligned-of s (t ∷ ts) a here = a.0
 aligned-of s (t ∷ ts) a (there i) = aligned-of s ts a.1 i

@@ -1,18 +1,18 @@
 -- What the writes of a kernel's image leave at each place of the file is the image's byte.
-use Rattle.std.proofs.Common.{ℕ, ◌≡◌, ◌+◌, ◌-◌, ◌*◌, ◌/◌, ◌%◌, ◌^◌, ◌<◌, ◌≤◌, ◌∙◌, ◌⊎◌, List, [], ◌∷◌, ◌++◌, length, get_or, refl, ap, sym, subst, arith, Bool, true, false, inl, inr, ◌&&◌, ◌||◌}
-use Rattle.std.specs.Prelude.{Some, None, Option, flat_map, All, slice_index, nat_lt, if◌then◌else◌}
+use Rattle.std.proofs.Common.{ℕ, ◌≡◌, ◌+◌, ◌-◌, ◌*◌, ◌/◌, ◌^◌, ◌<◌, ◌≤◌, ◌∙◌, ◌⊎◌, List, [], ◌∷◌, ◌++◌, length, get_or, refl, ap, sym, subst, arith, Bool, true, false, inl, inr, ◌&&◌, ◌||◌}
+use Rattle.std.specs.Prelude.{Some, None, Option, flat_map, All, nat_lt, if◌then◌else◌}
 use Rattle.std.specs.List.{list_any}
 use Rattle.std.proofs.lemmas.Bool.{cases_Bool, cases_lt, lt-ltb, le-ltb}
 use Rattle.kl_base.specs.declared.class.Class.{Class}
 use Rattle.kl_base.specs.declared.class.Class.TheVariants.{Text, Rodata, Rwdata, Bss}
 use Rattle.kl_base.specs.declared.limits.TheConstants.{BASE_LIMIT, SPAN_LIMIT}
-use Rattle.kl_le.specs.Bytes.{Outside, Within}
+use Rattle.kl_le.specs.Bytes.{Within}
 use Rattle.kl_model.specs.Areas.{class_number}
 use Rattle.kl_model.specs.Carries.{InArea, class_size, content, is_in_file, no_piece, offset_for, padding, piece_at, segments_of}
 use Rattle.kl_model.specs.Memory.{segments}
-use Rattle.kl_model.specs.Image.{byte_at, class_on, head_bytes, image_byte, image_bytes, is_in_area, is_nop, is_within, padding_at, part_on}
-use Rattle.kl_model.specs.Laid.{Laid, area_at, no_area, place_of, span, unwrapped}
-use Rattle.kl_model.specs.Line.{area_spread, class_line, classes, every_part, gap_parts, gap_size, made_parts, piece_part, run_spreads}
+use Rattle.kl_model.specs.Image.{byte_at, class_on, head_bytes, image_byte, image_bytes, is_in_area, is_within, padding_at, part_on}
+use Rattle.kl_model.specs.Laid.{Laid, area_at, place_of, span}
+use Rattle.kl_model.specs.Line.{class_line, classes, every_part, gap_parts, gap_size, made_parts, piece_part, run_spreads}
 use Rattle.kl_model.specs.Lists.{each}
 use Rattle.kl_model.specs.Sizes.{made_for, made_of}
 use Rattle.kl_model.specs.Slots.{slots}
@@ -22,7 +22,6 @@ use Rattle.kl_model.specs.Written.{byte_of}
 use Rattle.kl_model.specs.declared.graph.Graph.{Graph}
 use Rattle.kl_model.specs.declared.graph.Target.TheVariants.{Zero}
 use Rattle.kl_model.specs.declared.kit.Kit.{Kit}
-use Rattle.kl_model.specs.declared.kit.KitKind.{KitKind}
 use Rattle.kl_model.specs.declared.kit.KitKind.TheVariants.{Kernel}
 use Rattle.kl_model.specs.declared.object.Input.{Input}
 use Rattle.kl_model.specs.declared.place.AreaAt.{AreaAt}
@@ -32,14 +31,14 @@ use Rattle.kl_model.specs.declared.place.LinePart.{LinePart}
 use Rattle.kl_model.specs.declared.place.Made.{Made}
 use Rattle.kl_model.specs.declared.place.Placement.{Placement}
 use Rattle.kl_model.proofs.ClassMemory.{InOrder, start_past_base}
-use Rattle.kl_model.proofs.Covered.{In, here, there, in_left, in_right, in_each, in_flat_map, index_of, IsWhole}
+use Rattle.kl_model.proofs.Covered.{In, here, there, in_left, in_right, in_each, in_flat_map, IsWhole}
 use Rattle.kl_model.proofs.ImageBytes.{within_is}
 use Rattle.kl_write.proofs.FileBytes.{class_on_is, in_classes, within_not}
 use Rattle.kl_write.proofs.LawBytes.{find_none, one_class, stands_within, text_area, within_of}
 use Rattle.kl_write.proofs.LawFields.{base_limit, got_size, read, short}
 use Rattle.kl_write.proofs.Places.{le_unwrapped}
-use Rattle.kl_write.proofs.Painted.{Gives, all_same, any_none, find_in, in_one, in_only, some_same}
-use Rattle.kl_write.proofs.RightWrites.{at_address, image, in_order, right_field, right_gap, right_piece, right_slot}
+use Rattle.kl_write.proofs.Painted.{Gives, all_same, any_none, find_in, in_only, some_same}
+use Rattle.kl_write.proofs.RightWrites.{at_address, in_order, right_field, right_gap, right_piece, right_slot}
 use Rattle.kl_write.proofs.Shown.{cases_within, has_written, not_written, written-append}
 use Rattle.kl_write.proofs.SlotWords.{any_in}
 use Rattle.kl_write.proofs.SoundLaid.{in_pieces, in_split, piece_home}

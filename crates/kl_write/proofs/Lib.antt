@@ -17,3 +17,5 @@ pub mod RightWrites
 pub mod ImageWrites
 pub mod Places
 pub mod LowBytes
+pub mod Spans
+pub mod Filled

@@ -1,5 +1,5 @@
 -- The low bytes of a number, written into a window.
-use Rattle.std.proofs.Common.{ℕ, zero, suc, ◌≡◌, ◌+◌, ◌/◌, ◌%◌, ◌^◌, ◌<◌, ◌≤◌, ◌∙◌, List, [], ◌∷◌, length, get_or, take, refl, ap, arith}
+use Rattle.std.proofs.Common.{ℕ, zero, suc, ◌≡◌, ◌+◌, ◌/◌, ◌^◌, ◌<◌, ◌≤◌, ◌∙◌, List, [], ◌∷◌, length, get_or, take, refl, ap, arith}
 use Rattle.std.specs.Int.{bytes_low_first, to_le_bytes, w64}
 use Rattle.std.proofs.lemmas.List.{get_or-take, length-take-le}
 use Rattle.kl_model.specs.Written.{byte_of}

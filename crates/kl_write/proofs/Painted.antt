@@ -1,14 +1,13 @@
 -- What a place of the file has behind writes: a byte that all writes that have the place agree on.
-use Rattle.std.proofs.Common.{ℕ, zero, suc, ◌≡◌, ◌+◌, ◌-◌, ◌<◌, ◌≤◌, ◌∙◌, ◌⊎◌, List, [], ◌∷◌, ◌++◌, length, get_or, refl, ap, arith, inl, inr, Bool, true, false, ◌||◌}
-use Rattle.std.specs.Prelude.{Some, None, Option, find}
+use Rattle.std.proofs.Common.{ℕ, suc, ◌≡◌, ◌+◌, ◌-◌, ◌<◌, List, [], ◌∷◌, length, get_or, refl, arith, inl, inr, Bool, true, false}
+use Rattle.std.specs.Prelude.{Some, find}
 use Rattle.std.specs.List.{list_any}
-use Rattle.std.proofs.lemmas.Bool.{cases_Bool, cases_lt}
+use Rattle.std.proofs.lemmas.Bool.{cases_Bool}
 use Rattle.kl_le.specs.Bytes.{Within}
 use Rattle.kl_model.specs.Image.{is_within}
 use Rattle.kl_model.specs.Lists.{each_from, only_if}
-use Rattle.kl_model.proofs.Covered.{In, here, there, in_left, in_right}
+use Rattle.kl_model.proofs.Covered.{In, here, there}
 use Rattle.kl_model.proofs.ImageBytes.{within_is}
-use Rattle.kl_write.proofs.FileBytes.{within_not}
 use Rattle.kl_write.proofs.LawBytes.{within_of}
 use Rattle.kl_write.proofs.SoundLaid.{in_split}
 use Rattle.kl_write.specs.Windows.{Write, written}

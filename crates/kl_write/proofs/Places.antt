@@ -1,5 +1,5 @@
 -- Addresses that are kept modulo 2^64, and their places in the file.
-use Rattle.std.proofs.Common.{ℕ, ◌≡◌, ◌+◌, ◌-◌, ◌%◌, ◌^◌, ◌<◌, ◌≤◌, arith, true, false, nat_lt, inl, inr}
+use Rattle.std.proofs.Common.{ℕ, ◌≡◌, ◌-◌, ◌^◌, ◌<◌, ◌≤◌, arith, true, false, nat_lt, inl, inr}
 use Rattle.std.proofs.lemmas.Bool.{le-ltb, lt-ltb, cases_lt}
 use Rattle.kl_model.specs.Laid.{unwrapped}
 use Rattle.kl_model.specs.Reaches.{less}

@@ -1,16 +1,15 @@
 -- Each write of a kernel's image gives the image's byte where no later write has its place.
-use Rattle.std.proofs.Common.{ℕ, ◌≡◌, ◌+◌, ◌-◌, ◌*◌, ◌/◌, ◌%◌, ◌^◌, ◌<◌, ◌≤◌, ◌∙◌, ◌⊎◌, List, [], ◌∷◌, ◌++◌, length, get_or, refl, ap, sym, subst, arith, Bool, true, false, inl, inr}
-use Rattle.std.specs.Prelude.{Some, None, Option, flat_map, All, pos}
+use Rattle.std.proofs.Common.{ℕ, ◌≡◌, ◌+◌, ◌-◌, ◌*◌, ◌^◌, ◌<◌, ◌≤◌, ◌∙◌, List, [], ◌++◌, get_or, refl, ap, sym, arith, true, inl, inr}
+use Rattle.std.specs.Prelude.{Some, None, Option, All, pos}
 use Rattle.kl_base.specs.declared.class.Class.{Class}
 use Rattle.kl_base.specs.declared.class.Class.TheVariants.{Text, Rodata, Rwdata, Bss}
 use Rattle.kl_base.specs.declared.limits.TheConstants.{BASE_LIMIT, SPAN_LIMIT}
 use Rattle.kl_le.specs.Bytes.{Within}
 use Rattle.kl_model.specs.Areas.{class_number}
 use Rattle.kl_model.specs.Carries.{InArea, InField, content, is_in_file, no_piece, padding, piece_at}
-use Rattle.kl_model.specs.Image.{byte_at, image_byte, part_byte}
+use Rattle.kl_model.specs.Image.{byte_at, image_byte}
 use Rattle.kl_model.specs.Laid.{Laid, area_at, place_of, span}
-use Rattle.kl_model.specs.Line.{classes, gap_size}
-use Rattle.kl_model.specs.Orders.{IsOrder}
+use Rattle.kl_model.specs.Line.{gap_size}
 use Rattle.kl_model.specs.Relocations.{width}
 use Rattle.kl_model.specs.Sizes.{made_of}
 use Rattle.kl_model.specs.Slots.{slots}
@@ -29,7 +28,7 @@ use Rattle.kl_model.specs.declared.place.Body.TheVariants as body
 use Rattle.kl_model.specs.declared.place.Gaps.{Gaps}
 use Rattle.kl_model.specs.declared.place.Placement.{Placement}
 use Rattle.kl_model.proofs.ClassMemory.{InOrder, start_past_base}
-use Rattle.kl_model.proofs.Covered.{In, here, there, in_left, in_right, index_of, in_each, IsWhole}
+use Rattle.kl_model.proofs.Covered.{In, here, in_each, IsWhole}
 use Rattle.kl_model.proofs.ImageBytes.{byte_of_piece}
 use Rattle.kl_write.proofs.FileBytes.{image_there}
 use Rattle.kl_write.proofs.LawBytes.{are_apart, gap_area, gap_at, no_field, piece_area}

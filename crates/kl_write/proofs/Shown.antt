@@ -1,14 +1,12 @@
 -- A window that shows writes.
-use Rattle.std.proofs.Common.{ℕ, ◌≡◌, ◌+◌, ◌-◌, ◌<◌, ◌≤◌, ◌∙◌, ◌⊎◌, List, [], ◌∷◌, ◌++◌, length, get_or, take, drop, refl, ap, sym, arith, inl, inr, Bool, true, false}
-use Rattle.std.specs.Prelude.{if◌then◌else◌, nat_lt, slice_index}
-use Rattle.std.proofs.lemmas.Bool.{cases_Bool, cases_lt, lt-ltb, le-ltb}
+use Rattle.std.proofs.Common.{ℕ, ◌≡◌, ◌+◌, ◌-◌, ◌<◌, ◌≤◌, ◌∙◌, ◌⊎◌, List, [], ◌∷◌, ◌++◌, length, get_or, refl, ap, sym, arith, inl, inr}
+use Rattle.std.specs.Prelude.{if◌then◌else◌}
+use Rattle.std.proofs.lemmas.Bool.{cases_lt}
 use Rattle.kl_le.specs.Bytes.{ChangesWithin, Outside, Within}
-use Rattle.kl_le.proofs.Num.{get_or-bytes}
 use Rattle.kl_model.specs.Image.{is_within}
 use Rattle.kl_model.proofs.ImageBytes.{within_is}
 use Rattle.kl_write.proofs.FileBytes.{within_not}
-use Rattle.kl_write.proofs.LawBytes.{within_of}
-use Rattle.kl_write.specs.Windows.{Shows, Write, padded_from, same_from, text_from, written}
+use Rattle.kl_write.specs.Windows.{Shows, Write, written}
 
 -- one write after others
 pub written-append : (b : ℕ) (xs ys : List Write) (q : ℕ) → written b (xs ++ ys) q ≡ written (written b xs q) ys q

@@ -7,7 +7,7 @@ use Rattle.kl_base.specs.declared.class.Class.{Class}
 use Rattle.kl_base.specs.declared.class.Class.TheVariants.{Text, Rodata, Rwdata, Bss}
 use Rattle.kl_model.specs.Areas.{class_number}
 use Rattle.kl_model.specs.Carries.{Apart, no_piece, piece_at}
-use Rattle.kl_model.specs.Laid.{Laid, Stand, area_at, place_of, reach, span}
+use Rattle.kl_model.specs.Laid.{Laid, Stand, area_at, class_end, place_of, reach, span}
 use Rattle.kl_model.specs.Line.{class_line, classes, every_part, gap_parts, made_parts, piece_part}
 use Rattle.kl_model.specs.Lists.{each, each_from, up}
 use Rattle.kl_model.specs.Sizes.{page_of, text_from}
@@ -82,6 +82,7 @@ pub record FourClasses (kit : Kit) (g : Graph) (gaps : Option Gaps) (order : Lis
   pub stands : (c : Class) → ClassStands p g (class_line kit g gaps order made c) c
   pub top : (area_at p 3).end ≤ p.base + SPAN_LIMIT
   pub text_end : (area_at p 0).end ≡ reach (text_from kit g) (class_line kit g gaps order made Text)
+  pub rodata_end : (area_at p 1).end ≡ reach (up (class_end p Text) (page_of kit g)) (class_line kit g gaps order made Rodata)
 
 module _ (kit : Kit) (g : Graph) (gaps : Option Gaps) (order : List ℕ) (made : Made) (p : Placement) (laid : Laid p kit g gaps order made)
     (small : span kit g gaps order made ≤ SPAN_LIMIT) (limit : kit.base ≤ BASE_LIMIT) (sound : IsSoundGraph kit g) (whole : IsWhole g order) where
@@ -130,6 +131,7 @@ module _ (kit : Kit) (g : Graph) (gaps : Option Gaps) (order : List ℕ) (made :
         stands = λ c. pick at_text at_rodata at_rwdata at_bss c;
         top = omega (arith, bss.ends, fits, base);
         text_end = text.ends;
+        rodata_end = rodata.ends ∙ ap (λ m. reach (up m n) (class_line kit g gaps order made Rodata)) (sym text.ends);
       }
     where
       pick : ClassStands p g (class_line kit g gaps order made Text) Text → ClassStands p g (class_line kit g gaps order made Rodata) Rodata

@@ -1,5 +1,5 @@
 -- Writes into a file, and a window of the file that shows them. For the contracts inside this crate alone.
-use Rattle.std.specs.Prelude.{ℕ, ◌+◌, ◌-◌, ◌≡◌, ◌<◌, cond, if◌then◌else◌, nat_lt, List, [], ◌∷◌, length, slice_index}
+use Rattle.std.specs.Prelude.{ℕ, ◌+◌, ◌-◌, ◌≡◌, ◌<◌, if◌then◌else◌, nat_lt, List, [], ◌∷◌, length, slice_index}
 use Rattle.kl_model.specs.Image.{is_within}
 use Rattle.kl_model.specs.Written.{byte_of}
 

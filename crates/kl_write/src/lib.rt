@@ -6,6 +6,8 @@ mod numbers;
 mod padding;
 mod pieces;
 mod place;
+mod plan;
 mod window;
 
 pub use laws::image_carries;
+pub use plan::{Plan, fill};

@@ -1,5 +1,5 @@
 // The padding of an image.
-ghost use Rattle.std.specs.Prelude.{◌≡◌, ◌+◌, ◌<◌, ◌^◌, ◌∷◌, [], length, Some};
+ghost use Rattle.std.specs.Prelude.{◌≡◌, ◌+◌, ◌<◌, ◌^◌, ◌∷◌, [], length, IfSome, Some};
 ghost use Rattle.kl_model.specs.Carries.{padding as padding_of};
 ghost use Rattle.kl_model.specs.Laid.{place_of};
 ghost use Rattle.kl_model.specs.Line.{gap_size};
@@ -79,11 +79,28 @@ fn pad_gap(
 {
     let index = graph.pieces.items().len() + number_of(class) as usize;
     let place = file_place(placement, placement.pieces.items()[index].address);
-    fill_window(out, at, place, size_of(gaps, class) as usize, padding(class));
+    fill_window(
+        out,
+        at,
+        place,
+        size_of(gaps, class) as usize,
+        padding(class),
+    );
 }
 
-/// Pads the gaps of the classes that have bytes in the file.
-pub fn pad_gaps(out: &mut [u8], at: usize, graph: &Graph, gaps: &Gaps, placement: &Placement)
+/// Pads the gaps of the classes that have bytes in the file, if there are gaps.
+pub fn pad_gaps(out: &mut [u8], at: usize, graph: &Graph, gaps: Option<Gaps>, placement: &Placement)
+    requires span { IfSome gaps (λ z. AreGapsInSpan graph.now z placement.now) }
+    requires window { at + length out.old < 2 ^ 63 }
+    ensures { Shows out.old out.new at (gap_writes graph.now gaps placement.now) }
+{
+    if let Some(gaps) = gaps {
+        pad_three(out, at, graph, &gaps, placement);
+    }
+}
+
+/// Pads the gaps of text, rodata and data.
+fn pad_three(out: &mut [u8], at: usize, graph: &Graph, gaps: &Gaps, placement: &Placement)
     requires span { AreGapsInSpan graph.now gaps.now placement.now }
     requires window { at + length out.old < 2 ^ 63 }
     ensures { Shows out.old out.new at (gap_writes graph.now (Some gaps.now) placement.now) }

@@ -48,7 +48,13 @@ fn write_piece(
 }
 
 /// Writes the pieces of the classes that have bytes in the file.
-pub fn write_pieces(out: &mut [u8], at: usize, inputs: &[Input], graph: &Graph, placement: &Placement)
+pub fn write_pieces(
+    out: &mut [u8],
+    at: usize,
+    inputs: &[Input],
+    graph: &Graph,
+    placement: &Placement,
+)
     requires sources { AreSourced inputs.now graph.now }
     requires short { AreShort graph.now }
     requires span { ArePiecesInSpan graph.now placement.now }

@@ -1,4 +1,4 @@
-use Rattle.std.proofs.Common.{◌<◌, length, arith}
+use Rattle.std.proofs.Common.{◌<◌, length}
 use Rattle.kl_model.proofs.Each.{each_more}
 use Rattle.kl_write.proofs.Shown.{shows-append}
 use Rattle.kl_write.specs.Writes.{no_field, nth_value_write}

@@ -1,6 +1,6 @@
-use Rattle.std.proofs.Common.{◌≡◌, ◌+◌, ◌-◌, ◌∙◌, get_or, ap, arith}
+use Rattle.std.proofs.Common.{◌≡◌, ◌-◌, get_or, arith}
 use Rattle.std.proofs.lemmas.List.{get_or_default}
-use Rattle.kl_model.specs.Laid.{area_at, no_area, unwrapped}
+use Rattle.kl_model.specs.Laid.{area_at, no_area}
 use Rattle.kl_write.specs.Writes.{file_place}
 use Rattle.kl_write.proofs.Places.{zero_area}
 use Rattle.kl_write.proofs.padding.pad_area.Goals as goal

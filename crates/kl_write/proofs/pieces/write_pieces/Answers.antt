@@ -1,6 +1,5 @@
-use Rattle.std.proofs.Common.{◌≡◌, ◌<◌, length, arith}
+use Rattle.std.proofs.Common.{◌<◌, length}
 use Rattle.kl_model.specs.Carries.{no_piece}
-use Rattle.kl_model.specs.Lists.{each}
 use Rattle.kl_model.proofs.Each.{each_more}
 use Rattle.kl_write.proofs.Shown.{shows-append}
 use Rattle.kl_write.specs.Writes.{piece_write}

@@ -1,4 +1,4 @@
-use Rattle.std.proofs.Common.{◌≡◌, ◌+◌, ◌-◌, ◌<◌, length, get_or, arith}
+use Rattle.std.proofs.Common.{◌+◌, ◌-◌, arith}
 use Rattle.kl_write.proofs.Shown.{shows_part}
 use Rattle.kl_write.specs.Windows.{same_from}
 use Rattle.kl_write.proofs.window.fill_window.Goals as goal

@@ -1,4 +1,4 @@
-use Rattle.std.proofs.Common.{◌≡◌, ◌+◌, ◌-◌, ◌<◌, ◌∙◌, length, get_or, take, drop, ap, sym, arith, length-drop}
+use Rattle.std.proofs.Common.{◌≡◌, ◌+◌, ◌-◌, ◌∙◌, length, get_or, take, drop, ap, sym, arith, length-drop}
 use Rattle.std.proofs.lemmas.List.{length-take}
 use Rattle.kl_le.proofs.Num.{get_or-bytes}
 use Rattle.kl_write.proofs.Shown.{shows_part}
