@@ -1,12 +1,12 @@
 -- A window that shows writes.
-use Rattle.std.proofs.Common.{ℕ, ◌≡◌, ◌+◌, ◌-◌, ◌<◌, ◌≤◌, ◌∙◌, ◌⊎◌, List, [], ◌∷◌, ◌++◌, length, get_or, refl, ap, sym, arith, inl, inr}
+use Rattle.std.proofs.Common.{ℕ, ◌≡◌, ◌+◌, ◌-◌, ◌<◌, ◌≤◌, ◌∙◌, ◌⊎◌, List, [], ◌∷◌, ◌++◌, length, get_or, refl, ap, sym, arith, inl, inr, true}
 use Rattle.std.specs.Prelude.{if◌then◌else◌}
 use Rattle.std.proofs.lemmas.Bool.{cases_lt}
 use Rattle.kl_le.specs.Bytes.{ChangesWithin, Outside, Within}
 use Rattle.kl_model.specs.Image.{is_within}
 use Rattle.kl_model.proofs.ImageBytes.{within_is}
 use Rattle.kl_write.proofs.FileBytes.{within_not}
-use Rattle.kl_write.specs.Windows.{Shows, Write, written}
+use Rattle.kl_write.specs.Windows.{Shows, Write, same_from, written}
 
 -- one write after others
 pub written-append : (b : ℕ) (xs ys : List Write) (q : ℕ) → written b (xs ++ ys) q ≡ written (written b xs q) ys q
@@ -93,3 +93,36 @@ shows_as old new at w v s place count bytes =
     let far : at + k - w.place ≡ at + k - v.place = ap (λ n. at + k - n) place in
     s.bytes k h ∙ (has_written (get_or old k 0) w (at + k) own ∙ (bytes (at + k - w.place) (omega (arith, place, low, count, high)) ∙ ap v.byte far)))
     (λ k h o. s.bytes k h ∙ not_written (get_or old k 0) w (at + k) (elim o [ inl l ↦ inl (omega (arith, place, l)) | inr l ↦ inr (omega (arith, place, count, l)) ]))
+
+-- one byte up to a place and from another on, and between them another byte: as if all had the first before
+pub shows_between : (old a b new : List ℕ) (at from to rest x y : ℕ) → from ≤ to → at + length old ≤ to + rest
+    → Shows old a at (same_from 0 from x ∷ []) → Shows a b at (same_from from (to - from) y ∷ []) → Shows b new at (same_from to rest x ∷ [])
+    → Shows old new at (same_from at (length old) x ∷ same_from from (to - from) y ∷ [])
+shows_between old a b new at from to rest x y order room f g h =
+    let all = shows-append old b new at (same_from 0 from x ∷ same_from from (to - from) y ∷ []) (same_from to rest x ∷ [])
+    (shows-append old a b at (same_from 0 from x ∷ []) (same_from from (to - from) y ∷ []) f g) h in
+    record {
+      long = all.long;
+      bytes = λ k l.
+          let q = at + k in
+          let whole : is_within at (length old) q ≡ true = within_is at (length old) q (omega arith, omega (arith, l)) in
+          let same : written (get_or old k 0) (same_from at (length old) x ∷ same_from from (to - from) y ∷ []) q ≡ written x (same_from from (to - from) y ∷ []) q =
+          ap (λ t. written (if t then x else get_or old k 0) (same_from from (to - from) y ∷ []) q) whole in
+          all.bytes k l ∙ (elim (cases_lt q from) [
+            | inl s ↦
+                let i = within_is 0 from q (omega arith, omega (arith, s)) in
+                let m = within_not from (to - from) q (inl s) in
+                let n = within_not to rest q (inl (omega (arith, s, order))) in
+                rw (i, m, n) refl
+            | inr s ↦ elim (cases_lt q to) [
+              | inl t ↦
+                  let m = within_is from (to - from) q (s, omega (arith, t, order)) in
+                  let n = within_not to rest q (inl t) in
+                  rw (m, n) refl
+              | inr t ↦
+                  let m = within_not from (to - from) q (inr (omega (arith, t, order))) in
+                  let n = within_is to rest q (t, omega (arith, l, room)) in
+                  rw (m, n) refl
+            ]
+          ] ∙ sym same);
+    }

@@ -1,5 +1,5 @@
 // The padding of an image.
-ghost use Rattle.std.specs.Prelude.{◌≡◌, ◌+◌, ◌<◌, ◌^◌, ◌∷◌, [], length, IfSome, Some};
+ghost use Rattle.std.specs.Prelude.{◌≡◌, ◌+◌, ◌-◌, ◌<◌, ◌≤◌, ◌^◌, ◌∷◌, [], length, IfSome, Some};
 ghost use Rattle.kl_model.specs.Carries.{padding as padding_of};
 ghost use Rattle.kl_model.specs.Laid.{place_of};
 ghost use Rattle.kl_model.specs.Line.{gap_size};
@@ -27,6 +27,31 @@ fn pad_area(out: &mut [u8], at: usize, placement: &Placement, number: u32, byte:
     fill_window(out, at, from, to - from, byte);
 }
 
+/// One byte from a place up to another, and zeros before and behind.
+fn pad_between(out: &mut [u8], at: usize, from: usize, to: usize, byte: u8)
+    requires order { from ≤ to }
+    requires small { to < 2 ^ 62 }
+    requires window { at + length out.old < 2 ^ 63 }
+    ensures { Shows out.old out.new at (same_from at (length out.old) 0 ∷ same_from from (to - from) byte ∷ []) }
+{
+    let rest = (at + out.len()).saturating_sub(to);
+    fill_window(out, at, 0, from, 0);
+    fill_window(out, at, from, to - from, byte);
+    fill_window(out, at, to, rest, 0);
+}
+
+/// Zeros before text and behind it, and the padding of text.
+fn pad_text(out: &mut [u8], at: usize, placement: &Placement)
+    requires text { IsAreaInSpan placement.now area.TEXT }
+    requires window { at + length out.old < 2 ^ 63 }
+    ensures { Shows out.old out.new at (same_from at (length out.old) 0 ∷ area_write placement.now area.TEXT area.INT3 ∷ []) }
+{
+    let text = placement.areas.items()[TEXT as usize];
+    let from = file_place(placement, text.start);
+    let to = file_place(placement, text.end);
+    pad_between(out, at, from, to, INT3);
+}
+
 /// Zeros, and the padding of text and of its areas `init` and `fini`.
 pub fn pad(out: &mut [u8], at: usize, placement: &Placement)
     requires text { IsAreaInSpan placement.now area.TEXT }
@@ -35,9 +60,7 @@ pub fn pad(out: &mut [u8], at: usize, placement: &Placement)
     requires window { at + length out.old < 2 ^ 63 }
     ensures { Shows out.old out.new at (same_from at (length out.old) 0 ∷ padding_writes placement.now) }
 {
-    let size = out.len();
-    fill_window(out, at, at, size, 0);
-    pad_area(out, at, placement, TEXT, INT3);
+    pad_text(out, at, placement);
     pad_area(out, at, placement, INIT, NOP);
     pad_area(out, at, placement, FINI, NOP);
 }
