@@ -1,0 +1,160 @@
+-- The parts of a kernel that is laid out stand in the span.
+use Rattle.std.proofs.Common.{ℕ, ◌≡◌, ◌+◌, ◌-◌, ◌*◌, ◌^◌, ◌<◌, ◌≤◌, List, length, map, refl, ap, sym, subst, arith, inl, inr, length-append}
+use Rattle.std.specs.Prelude.{Some, None, Option, IfSome}
+use Rattle.std.proofs.lemmas.Bool.{cases_lt}
+use Rattle.std.proofs.lemmas.List.{length-map}
+use Rattle.kl_base.specs.declared.class.Class.{Class}
+use Rattle.kl_base.specs.declared.class.Class.TheVariants.{Text, Rodata, Rwdata, Bss}
+use Rattle.kl_base.specs.declared.limits.TheConstants.{SPAN_LIMIT}
+use Rattle.kl_model.specs.Areas.{class_number}
+use Rattle.kl_model.specs.Carries.{gap_names, piece_at}
+use Rattle.kl_model.specs.Laid.{AreasStand, area_at, class_end, place_of, reach, start_of, end_of}
+use Rattle.kl_model.specs.Line.{Spread, area_spread, class_line, gap_size, last_spreads, made_spread, piece_part, run_spreads, spreads}
+use Rattle.kl_model.specs.Lists.{up}
+use Rattle.kl_model.specs.Sizes.{made_of, page_of, text_from}
+use Rattle.kl_model.specs.Slots.{slots}
+use Rattle.kl_model.specs.declared.graph.Graph.{Graph}
+use Rattle.kl_model.specs.declared.kit.Kit.{Kit}
+use Rattle.kl_model.specs.declared.object.Input.{Input}
+use Rattle.kl_model.specs.declared.place.Body.TheVariants as body
+use Rattle.kl_model.specs.declared.place.Gaps.{Gaps}
+use Rattle.kl_model.specs.declared.place.Made.{Made}
+use Rattle.kl_model.specs.declared.place.Placed.{Placed}
+use Rattle.kl_model.specs.declared.place.Placement.{Placement}
+use Rattle.kl_model.specs.declared.graph.Piece.{Piece}
+use Rattle.kl_model.specs.declared.graph.PieceId.{PieceId}
+use Rattle.kl_model.proofs.ClassMemory.{InOrder}
+use Rattle.kl_model.proofs.Covered.{In, here, there, in_right, IsWhole}
+use Rattle.kl_model.proofs.InOrder.{area_is, base-le, end-reach, le-start, le-up, page-pos}
+use Rattle.kl_write.proofs.AreaFound.{aligned-of, found}
+use Rattle.kl_write.proofs.Homes.{aligned-spreads}
+use Rattle.kl_write.proofs.KernelFile.{le_top}
+use Rattle.kl_write.proofs.LawBytes.{stands_within}
+use Rattle.kl_write.proofs.LawFields.{base_limit, got_area, got_size, inside, is_ordered, is_top, read, short}
+use Rattle.kl_write.proofs.Places.{le_unwrapped}
+use Rattle.kl_write.proofs.SoundLaid.{FourClasses, four_classes, piece_home, positive}
+use Rattle.kl_write.proofs.Stands.{gap_in}
+use Rattle.kl_write.proofs.WholeOrder.{whole_order}
+use Rattle.kl_write.specs.InSpan.{AreFieldsInside, AreGapsInSpan, ArePiecesInSpan, AreShort, IsAreaInSpan}
+use Rattle.kl_write.specs.LaidKernel.{HasAreaAddresses, IsLaidKernel}
+
+module _ (kit : Kit) (inputs : List Input) (g : Graph) (gaps : Option Gaps) (order : List ℕ) (p : Placement) (l : IsLaidKernel kit g gaps order p) (numbers : HasAreaAddresses p) where
+  abbrev made : Made
+  made = made_of kit g
+
+  whole : IsWhole g order
+  whole = whole_order g order l.whole
+
+  ordered : InOrder p
+  ordered = is_ordered kit inputs g gaps order p l.kernel l.laid l.small l.base l.sound whole numbers
+
+  base_small : p.base < 2 ^ 64
+  base_small = let b = base_limit kit inputs g gaps order p l.kernel l.laid l.small l.base l.sound whole numbers in omega (arith, b)
+
+  in_top : (c : Class) → (area_at p (class_number c)).end ≤ p.base + SPAN_LIMIT
+  in_top c = omega (arith, le_top p c ordered, is_top kit inputs g gaps order p l.kernel l.laid l.small l.base l.sound whole numbers)
+
+  known : (n : ℕ) → n < 15 → n < length p.areas
+  known n h = let e = l.laid.count in omega (arith, e, h)
+
+  four : FourClasses kit g gaps order made p
+  four = four_classes kit g gaps order made p l.laid l.small l.base l.sound whole
+
+  pub text_span : IsAreaInSpan p 0
+  text_span = record { known = known 0 (omega arith); starts = ordered.base; ordered = ordered.text; ends = in_top Text }
+
+  -- an area of a class
+  area_span : (c : Class) (from n : ℕ) (s : Spread) → AreasStand p (place_of p g) from (spreads kit g gaps order made c) → p.base ≤ from
+      → reach from (class_line kit g gaps order made c) ≡ (area_at p (class_number c)).end → In s (spreads kit g gaps order made c) → s.area ≡ Some n → n < 15 → IsAreaInSpan p n
+  area_span c from n s stands past end i e h =
+      let all = aligned-spreads kit g gaps order made (positive kit g gaps order made p l.laid l.small l.base l.sound whole) c in
+      let f = found p (place_of p g) from (spreads kit g gaps order made c) n s stands all i e in
+      let own = aligned-of s (spreads kit g gaps order made c) all i in
+      let start = le-start (place_of p g) f.begin s.parts own f.stand in
+      let stop = end-reach (place_of p g) f.begin s.parts f.stand in
+      let top = in_top c in
+      let more = f.past in
+      let ends = f.ends in
+      let both = area_is p n (start_of (place_of p g) f.begin s.parts) (end_of (place_of p g) f.begin s.parts) f.is base_small
+      (omega (arith, start.0, more, past)) (omega (arith, start.1, stop)) (omega (arith, ends, end, top)) in
+      record {
+        known = known n h;
+        starts = omega (arith, both.0, start.0, more, past);
+        ordered = omega (arith, both.0, both.1, start.1, stop);
+        ends = omega (arith, both.1, ends, end, top);
+      }
+
+  text_base : p.base ≤ text_from kit g
+  text_base = let b = l.laid.base in omega (arith, b, base-le kit g)
+
+  pub init_span : IsAreaInSpan p 4
+  init_span = area_span Text (text_from kit g) 4 (area_spread g 4) l.laid.text.areas text_base (sym four.text_end) (there (in_right (run_spreads kit g order Text) here)) refl (omega arith)
+
+  pub fini_span : IsAreaInSpan p 5
+  fini_span = area_span Text (text_from kit g) 5 (area_spread g 5) l.laid.text.areas text_base (sym four.text_end) (there (in_right (run_spreads kit g order Text) (there here))) refl (omega arith)
+
+  got_last : In (made_spread 13 made.got 8) (spreads kit g gaps order made Rodata)
+  got_last = there (in_right (run_spreads kit g order Rodata) (subst (λ k. In (made_spread 13 made.got 8) (last_spreads k g made Rodata)) (sym l.kernel) (there (there here))))
+
+  pub got_span : IsAreaInSpan p 13
+  got_span =
+      let from = up (class_end p Text) (page_of kit g) in
+      area_span Rodata from 13 (made_spread 13 made.got 8) l.laid.rodata.areas (omega (arith, ordered.base, ordered.text, le-up (class_end p Text) (page_of kit g) (page-pos kit g))) (sym four.rodata_end) got_last refl (omega arith)
+
+  pub slots_room : (area_at p 13).start + 8 * length (slots g) ≤ p.base + SPAN_LIMIT
+  slots_room =
+      let size : made.got ≡ 8 * length (slots g) = got_size kit inputs g gaps order p l.kernel l.laid l.small l.base l.sound whole numbers in
+      elim (cases_lt 0 (length (slots g))) [
+        | inl some ↦
+            let last = got_area kit inputs g gaps order p l.kernel l.laid l.small l.base l.sound whole numbers (8 * length (slots g) - 1) (omega (arith, size, some)) in
+            omega (arith, last.1, in_top Rodata, some)
+        | inr none ↦ (let s = got_span in let o = s.ordered in let e = s.ends in omega (arith, none, o, e))
+      ]
+
+  -- pieces and gaps
+  placed_count : length p.pieces ≡ length g.pieces + length (gap_names gaps)
+  placed_count =
+      let names = ap length l.names in
+      omega (arith, names, length-map {B = PieceId × ℕ} p.pieces (λ (x : Placed). (x.id, x.size)), length-append (map (λ (x : Piece). (x.id, x.size)) g.pieces) (gap_names gaps), length-map {B = PieceId × ℕ} g.pieces (λ (x : Piece). (x.id, x.size)))
+
+  pub pieces_span : ArePiecesInSpan g p
+  pieces_span = record {
+    known = omega (arith, placed_count);
+    starts = λ n h. le_unwrapped p _ base_small;
+    ends = λ n h.
+        let w = stands_within kit inputs g gaps order p l.kernel l.laid l.small l.base l.sound whole (short kit inputs g gaps order p l.kernel l.laid l.small l.base l.sound whole numbers)
+        (read kit inputs g gaps order p l.kernel l.laid l.small l.base l.sound whole numbers) (piece_at g n).class (piece_part n (piece_at g n)) (piece_home kit g gaps order made p l.laid l.small l.base l.sound whole n h) in
+        omega (arith, w.1, in_top (piece_at g n).class);
+  }
+
+  class_small : (c : Class) → class_number c < 4
+  class_small Text = omega arith
+  class_small Rodata = omega arith
+  class_small Rwdata = omega arith
+  class_small Bss = omega arith
+
+  gap_span : (z : Gaps) → gaps ≡ Some z → AreGapsInSpan g z p
+  gap_span z e = record {
+    known = λ c. let four = ap (λ k. length (gap_names k)) e in omega (arith, placed_count, four, class_small c);
+    starts = λ c. le_unwrapped p _ base_small;
+    ends = λ c.
+        let w = stands_within kit inputs g gaps order p l.kernel l.laid l.small l.base l.sound whole (short kit inputs g gaps order p l.kernel l.laid l.small l.base l.sound whole numbers)
+        (read kit inputs g gaps order p l.kernel l.laid l.small l.base l.sound whole numbers) c (record { body = body.Gap c; size = gap_size z c; align = 16 }) (gap_in kit g gaps order made z c e) in
+        omega (arith, w.1, in_top c);
+  }
+
+  gaps_by : (z : Option Gaps) → gaps ≡ z → IfSome z (λ z. AreGapsInSpan g z p)
+  gaps_by None e = tt
+  gaps_by (Some z) e = gap_span z e
+
+  pub gaps_span : IfSome gaps (λ z. AreGapsInSpan g z p)
+  gaps_span = gaps_by gaps refl
+
+  pub short_pieces : AreShort g
+  short_pieces k d h = (l.sound.pieces k d h).short
+
+  pub fields_inside : AreFieldsInside g
+  fields_inside k d h = record {
+    piece = (l.sound.fields k d h).piece;
+    inside = inside kit inputs g gaps order p l.kernel l.laid l.small l.base l.sound whole numbers k d h;
+  }

@@ -1,0 +1,8 @@
+use Rattle.std.proofs.Common.{take}
+use Rattle.kl_model.specs.Lists.{each}
+use Rattle.kl_write.specs.Windows.{Shows}
+use Rattle.kl_write.specs.Writes.{piece_write}
+use Rattle.kl_write.proofs.pieces.write_pieces.Given as goal
+
+abbrev pub invariant-loop-number : goal.invariant-loop-number
+invariant-loop-number l = Shows l.initial.out l.out l.at (each (take l.number l.graph.pieces) (piece_write l.inputs l.graph l.placement))

@@ -1,0 +1,4 @@
+pub mod LaidKernel
+pub mod Windows
+pub mod Writes
+pub mod InSpan

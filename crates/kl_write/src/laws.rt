@@ -1,0 +1,8 @@
+// What is known of images that are made place by place.
+ghost use Rattle.kl_write.specs.LaidKernel.{ImageCarries};
+
+/// The bytes that `image_byte` gives for each place of the file carry a kernel's graph: whatever the inputs, for each sound
+/// graph, order, gaps and placement that is laid out, where no field's value is out of range.
+pub fn image_carries()
+    ensures { ImageCarries }
+{}

@@ -1,0 +1,13 @@
+//! Writes the images of kernels.
+#![tactic(auto)]
+
+mod laws;
+mod numbers;
+mod padding;
+mod pieces;
+mod place;
+mod plan;
+mod window;
+
+pub use laws::image_carries;
+pub use plan::{Plan, fill};
