@@ -1,7 +1,7 @@
 -- The graph of the small library is sound.
-use Rattle.std.proofs.Common.{ℕ, zero, suc, ◌≡◌, ◌+◌, ◌<◌, ◌≤◌, ◌∙◌, List, [], ◌∷◌, length, get_or, refl, sym, arith, rules, Bool, true, false, ◌&&◌, inl, lit<, lit≤}
+use Rattle.std.proofs.Common.{ℕ, zero, suc, ◌≡◌, ◌+◌, ◌<◌, ◌∙◌, List, [], ◌∷◌, length, get_or, refl, sym, arith, rules, Bool, true, false, ◌&&◌, inl, lit<, lit≤}
 use Rattle.std.proofs.lemmas.Bool.{leb-true, ltb-true}
-use Rattle.std.specs.Prelude.{IfSome, All, AllPairs, ℤ, pos, nat_le, nat_lt}
+use Rattle.std.specs.Prelude.{IfSome, All, AllPairs, pos, nat_le, nat_lt}
 use Rattle.std.specs.List.{list_all}
 use Rattle.std.proofs.lemmas.List.Elements.{All-cons}
 use Rattle.std.proofs.lemmas.List.Kept.{AllPairs-cons}

@@ -76,6 +76,8 @@ fn numbers_targets(rt: HostRuntime) -> Result<(), Fail> {
     assert_eq!(rt; index.find(second), Some(1));
     assert_eq!(rt; index.find(Target::Abs(3)), None);
     assert_eq!(rt; index.into_targets().items(), [first, second].as_slice());
+    let again = SlotIndex::of(rt.alloc(), &[second, first])?;
+    assert_eq!(rt; again.find(first), Some(1));
     Ok(())
 }
 
