@@ -19,3 +19,4 @@ pub mod Places
 pub mod LowBytes
 pub mod Spans
 pub mod Filled
+pub mod HeadBytes

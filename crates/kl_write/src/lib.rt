@@ -1,6 +1,8 @@
 //! Writes the images of kernels.
 #![tactic(auto)]
 
+mod address;
+mod head;
 mod laws;
 mod numbers;
 mod padding;
