@@ -1,5 +1,5 @@
 -- Bytes from which headers read are the bytes that the headers are written as.
-use Rattle.std.proofs.Common.{ℕ, zero, suc, ◌≡◌, ◌+◌, ◌-◌, ◌*◌, ◌/◌, ◌%◌, ◌^◌, ◌<◌, ◌≤◌, ◌∙◌, List, [], ◌∷◌, ◌++◌, length, get_or, take, drop, refl, ap, sym, subst, arith, inl, inr, length-append, length-drop}
+use Rattle.std.proofs.Common.{ℕ, zero, suc, ◌≡◌, ◌+◌, ◌-◌, ◌*◌, ◌/◌, ◌%◌, ◌^◌, ◌<◌, ◌≤◌, ◌∙◌, List, ◌++◌, length, get_or, take, drop, refl, ap, sym, subst, arith, inl, inr, length-append, length-drop}
 use Rattle.std.specs.Prelude.{flat_map}
 use Rattle.std.proofs.Math.Nat.{pow-succ', div-div-eq-div-mul}
 use Rattle.std.proofs.lemmas.Bool.{cases_lt}
@@ -10,7 +10,7 @@ use Rattle.kl_elf.specs.declared.records.Ehdr.{Ehdr}
 use Rattle.kl_elf.specs.declared.records.Phdr.{Phdr}
 use Rattle.kl_model.specs.Written.{byte_of, bytes_of, ehdr_bytes, phdr_bytes}
 use Rattle.kl_model.proofs.ImageBytes.{byte-bytes_of, length-bytes_of}
-use Rattle.kl_write.proofs.Headers.{HasAt, length-phdr, length-phdrs, take_is, e16, e18, e20, e24, e32, e40, e48, e52, e54, e56, e58, e60, e62, p4, p8, p16, p24, p32, p40, p48}
+use Rattle.kl_write.proofs.ReadHeaders.{HasAt, length-phdr, length-phdrs, take_is, e16, e18, e20, e24, e32, e40, e48, e52, e54, e56, e58, e60, e62, p4, p8, p16, p24, p32, p40, p48}
 
 -- all are bytes
 abbrev pub AreBytes : List ℕ → Type 0

@@ -1,5 +1,5 @@
 pub mod FileBytes
-pub mod Headers
+pub mod ReadHeaders
 pub mod KernelFile
 pub mod Stands
 pub mod Homes

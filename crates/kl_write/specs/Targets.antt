@@ -2,7 +2,7 @@
 use Rattle.std.specs.Prelude.{◌<◌, length}
 use Rattle.kl_model.specs.declared.graph.Graph.{Graph}
 use Rattle.kl_model.specs.declared.graph.Target.{Target}
-use Rattle.kl_model.specs.declared.graph.Target.TheVariants.{Place, Abs, Edge, Name, Zero, Gone}
+use Rattle.kl_model.specs.declared.graph.Target.TheVariants.{Place, Edge}
 use Rattle.kl_model.specs.declared.place.Placement.{Placement}
 
 -- the piece or the area of a target is among those of the placement

@@ -1,5 +1,5 @@
 // The headers of a kernel's image.
-ghost use Rattle.std.specs.Prelude.{◌≡◌, ◌+◌, ◌*◌, ◌<◌, ◌≤◌, ◌++◌, ◌==◌, flat_map, not, length, IfOk, IfSome, OnOk};
+ghost use Rattle.std.specs.Prelude.{ℕ, List, Option, ◌≡◌, ◌+◌, ◌*◌, ◌<◌, ◌≤◌, ◌++◌, ◌==◌, flat_map, not, length, IfOk, IfSome, OnOk};
 ghost use Rattle.kl_base.specs.declared.class.Class.{Class};
 ghost use Rattle.kl_base.specs.declared.limits.TheConstants.{BASE_LIMIT};
 ghost use Rattle.kl_model.specs.Areas.{class_number};
@@ -8,7 +8,10 @@ ghost use Rattle.kl_model.specs.Leads.{address_of as address_of_target};
 ghost use Rattle.kl_model.specs.Lists.{only_if};
 ghost use Rattle.std.specs.Option.{option_map_or};
 ghost use Rattle.kl_model.specs.Written.{ehdr_bytes, phdr_bytes};
+ghost use Rattle.kl_model.specs.declared.kit.Kit.{Kit};
+ghost use Rattle.kl_model.specs.declared.place.Gaps.{Gaps};
 ghost use Rattle.kl_write.specs.InSpan.{IsAreaInSpan};
+ghost use Rattle.kl_write.specs.LaidKernel.{HasAreaAddresses, IsLaidKernel, kernel_headers};
 ghost use Rattle.kl_write.specs.Targets.{IsPlacedTarget};
 
 use crate::address::address_of;
@@ -65,7 +68,11 @@ fn segment(placement: &Placement, class: Class, size: u64) -> Phdr
 }
 
 /// Pushes the program header of a class, if the class has a byte.
-fn push_segment(segments: &mut Vec<Phdr>, placement: &Placement, class: Class) -> Result<(), NoMemory>
+fn push_segment(
+    segments: &mut Vec<Phdr>,
+    placement: &Placement,
+    class: Class,
+) -> Result<(), NoMemory>
     requires area { IsAreaInSpan placement.now (class_number class) }
     requires base { placement.now.base ≤ BASE_LIMIT }
     ensures { OnOk result (segments.new.items ≡ segments.old.items ++ only_if (not (class_size placement.now class == 0)) (segment_of placement.now class)) }
@@ -134,16 +141,25 @@ fn put_headers(bytes: &mut [u8], head: &Ehdr, segments: &[Phdr])
     write_headers(bytes, head, segments);
 }
 
-/// The bytes of the headers of a kernel's image.
-pub fn headers(alloc: Global, graph: &Graph, placement: &Placement) -> Result<Vec<u8>, NoMemory>
+/// The bytes of the headers, where the classes stand in the span.
+fn header_bytes(alloc: Global, graph: &Graph, placement: &Placement) -> Result<Vec<u8>, NoMemory>
     requires areas { (c : Class) → IsAreaInSpan placement.now (class_number c) }
     requires base { placement.now.base ≤ BASE_LIMIT }
     requires entry { IfSome graph.now.entry (IsPlacedTarget graph.now placement.now) }
-    ensures { IfOk result (λ v. v.items ≡ ehdr_bytes (kernel_header placement.now graph.now) ++ flat_map phdr_bytes (segments_of placement.now)) }
+    ensures { IfOk result (λ v. v.items ≡ kernel_headers placement.now graph.now) }
 {
     let segments = segments(alloc, placement)?;
     let mut bytes = vec![in alloc; 0; Ehdr::SIZE + Phdr::SIZE * segments.len()]?;
     let head = kernel_head(graph, placement, segments.len() as u16);
     put_headers(&mut bytes, &head, &segments);
     Ok(bytes)
+}
+
+/// The bytes of the headers of a kernel's image: the file header and a program header for each class that has a byte.
+pub fn headers(alloc: Global, graph: &Graph, placement: &Placement) -> Result<Vec<u8>, NoMemory>
+    requires laid { (kit : Kit) × (gaps : Option Gaps) × (order : List ℕ) × IsLaidKernel kit graph.now gaps order placement.now }
+    requires addresses { HasAreaAddresses placement.now }
+    ensures { IfOk result (λ v. v.items ≡ kernel_headers placement.now graph.now) }
+{
+    header_bytes(alloc, graph, placement)
 }

@@ -11,5 +11,6 @@ mod place;
 mod plan;
 mod window;
 
+pub use head::headers;
 pub use laws::image_carries;
 pub use plan::{Plan, fill};
