@@ -1,6 +1,6 @@
 -- The parts of a kernel that is laid out stand in the span.
-use Rattle.std.proofs.Common.{ℕ, ◌≡◌, ◌+◌, ◌-◌, ◌*◌, ◌^◌, ◌<◌, ◌≤◌, List, length, map, refl, ap, sym, subst, arith, inl, inr, length-append}
-use Rattle.std.specs.Prelude.{Some, None, Option, IfSome}
+use Rattle.std.proofs.Common.{get_or, ℕ, ◌≡◌, ◌+◌, ◌-◌, ◌*◌, ◌^◌, ◌<◌, ◌≤◌, List, length, map, refl, ap, sym, subst, arith, inl, inr, length-append}
+use Rattle.std.specs.Prelude.{All, Some, None, Option, IfSome}
 use Rattle.std.proofs.lemmas.Bool.{cases_lt}
 use Rattle.std.proofs.lemmas.List.{length-map}
 use Rattle.kl_base.specs.declared.class.Class.{Class}
@@ -28,16 +28,17 @@ use Rattle.kl_model.proofs.Covered.{In, here, there, in_right, IsWhole}
 use Rattle.kl_model.proofs.InOrder.{area_is, base-le, end-reach, le-start, le-up, page-pos}
 use Rattle.kl_write.proofs.AreaFound.{aligned-of, found}
 use Rattle.kl_write.proofs.Homes.{aligned-spreads}
-use Rattle.kl_write.proofs.KernelFile.{le_top}
+use Rattle.kl_write.proofs.KernelFile.{all_in, le_top}
 use Rattle.kl_write.proofs.LawBytes.{stands_within}
 use Rattle.kl_write.proofs.LawFields.{base_limit, got_area, got_size, inside, is_ordered, is_top, read, short}
 use Rattle.kl_write.proofs.Places.{le_unwrapped}
-use Rattle.kl_write.proofs.SoundLaid.{FourClasses, four_classes, piece_home, positive}
+use Rattle.kl_write.proofs.SlotWords.{in_slots}
+use Rattle.kl_write.proofs.SoundLaid.{in_get, FourClasses, four_classes, piece_home, positive}
 use Rattle.kl_write.proofs.Stands.{gap_in}
 use Rattle.kl_write.proofs.WholeOrder.{whole_order}
 use Rattle.kl_write.specs.InSpan.{AreFieldsInside, AreGapsInSpan, ArePiecesInSpan, AreShort, IsAreaInSpan}
 use Rattle.kl_write.specs.Targets.{IsPlacedTarget}
-use Rattle.kl_model.specs.Sound.{IsSoundTarget}
+use Rattle.kl_model.specs.Sound.{IsSoundField, IsSoundTarget}
 use Rattle.kl_model.specs.declared.graph.Target.{Target}
 use Rattle.kl_model.specs.declared.graph.Target.TheVariants.{Place, Abs, Edge, Name, Zero, Gone}
 use Rattle.kl_write.specs.LaidKernel.{HasAreaAddresses, IsLaidKernel}
@@ -178,6 +179,12 @@ module _ (kit : Kit) (inputs : List Input) (g : Graph) (gaps : Option Gaps) (ord
 
   pub entry_placed : IfSome g.entry (IsPlacedTarget g p)
   entry_placed = entry_by g.entry l.sound.entry
+
+  -- the targets of slots
+  pub slots_placed : All (IsPlacedTarget g p) (slots g)
+  slots_placed k d h =
+      let r = in_slots g (get_or (slots g) k d) (in_get (slots g) k d h) in
+      placed_target (get_or (slots g) k d) (subst (IsSoundTarget kit g) r.2 (all_in (IsSoundField kit g) g.fields r.0 l.sound.fields r.1).target)
 
   pub short_pieces : AreShort g
   short_pieces k d h = (l.sound.pieces k d h).short

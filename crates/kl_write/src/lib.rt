@@ -9,8 +9,10 @@ mod padding;
 mod pieces;
 mod place;
 mod plan;
+mod slots;
 mod window;
 
 pub use head::headers;
 pub use laws::image_carries;
+pub use slots::slot_addresses;
 pub use plan::{Plan, fill};
