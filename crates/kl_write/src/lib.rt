@@ -14,5 +14,5 @@ mod window;
 
 pub use head::headers;
 pub use laws::image_carries;
-pub use slots::slot_addresses;
 pub use plan::{Plan, fill};
+pub use slots::slot_addresses;
