@@ -31,7 +31,8 @@ pub struct Plan<'a> {
     pub values: Vec<u64>,
 }
 
-/// Writes those bytes of an image that lie in the window `out`, which stands from `at` on in the file.
+/// Fills the window `out`, which stands from byte `at` of the file on, with the bytes of a kernel's image, and with zeros behind
+/// the image's end. What stood in the window before shows nowhere.
 pub fn fill(out: &mut [u8], at: u64, inputs: &[Input], plan: &Plan)
     requires laid { (order : List ℕ) × IsLaidKernel plan.now.kit.now plan.now.graph.now plan.now.gaps order plan.now.placement.now }
     requires addresses { HasAreaAddresses plan.now.placement.now }
