@@ -28,7 +28,7 @@ use Rattle.kl_model.proofs.ClassMemory.{InOrder, start_past_base}
 use Rattle.kl_model.proofs.Covered.{In, here, there}
 use Rattle.kl_model.proofs.Each.{all-only_if}
 use Rattle.kl_write.proofs.FileBytes.{le-ends, ends_before, within_not, and_false, in_segments, phdrs_are}
-use Rattle.kl_write.proofs.Headers.{HasAt, has_left, has_right, IsSmallPhdr, IsSmallEhdr, length-phdrs, read_ehdr, read_phdrs}
+use Rattle.kl_write.proofs.ReadHeaders.{HasAt, has_left, has_right, IsSmallPhdr, IsSmallEhdr, length-phdrs, read_ehdr, read_phdrs}
 use Rattle.kl_model.specs.declared.kit.KitKind.{KitKind}
 use Rattle.kl_model.specs.declared.kit.KitKind.TheVariants.{Kernel}
 use Rattle.kl_model.specs.declared.place.Gaps.{Gaps}
@@ -164,7 +164,7 @@ module _ (p : Placement) (o : InOrder p) (limit : p.base ≤ BASE_LIMIT) (top : 
     abbrev img : List ℕ
     img = image_bytes kit inputs g gaps p
 
-    head_is : head_bytes kit inputs g gaps p ≡ ehdr_bytes (kernel_head p g) ++ flat_map phdr_bytes (segments_of p)
+    pub head_is : head_bytes kit inputs g gaps p ≡ ehdr_bytes (kernel_head p g) ++ flat_map phdr_bytes (segments_of p)
     head_is = ap (λ k. ehdr_bytes (head_for k (segments_for k (page_of kit g) p) p g) ++ flat_map phdr_bytes (segments_for k (page_of kit g) p)) kernel
 
     pub length-headers : length (head_bytes kit inputs g gaps p) ≡ 64 + 56 * length (segments_of p)

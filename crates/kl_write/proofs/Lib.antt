@@ -1,5 +1,5 @@
 pub mod FileBytes
-pub mod Headers
+pub mod ReadHeaders
 pub mod KernelFile
 pub mod Stands
 pub mod Homes
@@ -19,3 +19,4 @@ pub mod Places
 pub mod LowBytes
 pub mod Spans
 pub mod Filled
+pub mod HeadBytes

@@ -1,11 +1,11 @@
 -- The parts of a kernel that is laid out stand in the span.
-use Rattle.std.proofs.Common.{ℕ, ◌≡◌, ◌+◌, ◌-◌, ◌*◌, ◌^◌, ◌<◌, ◌≤◌, List, length, map, refl, ap, sym, subst, arith, inl, inr, length-append}
-use Rattle.std.specs.Prelude.{Some, None, Option, IfSome}
+use Rattle.std.proofs.Common.{get_or, ℕ, ◌≡◌, ◌+◌, ◌-◌, ◌*◌, ◌^◌, ◌<◌, ◌≤◌, List, length, map, refl, ap, sym, subst, arith, inl, inr, length-append}
+use Rattle.std.specs.Prelude.{All, Some, None, Option, IfSome}
 use Rattle.std.proofs.lemmas.Bool.{cases_lt}
 use Rattle.std.proofs.lemmas.List.{length-map}
 use Rattle.kl_base.specs.declared.class.Class.{Class}
 use Rattle.kl_base.specs.declared.class.Class.TheVariants.{Text, Rodata, Rwdata, Bss}
-use Rattle.kl_base.specs.declared.limits.TheConstants.{SPAN_LIMIT}
+use Rattle.kl_base.specs.declared.limits.TheConstants.{BASE_LIMIT, SPAN_LIMIT}
 use Rattle.kl_model.specs.Areas.{class_number}
 use Rattle.kl_model.specs.Carries.{gap_names, piece_at}
 use Rattle.kl_model.specs.Laid.{AreasStand, area_at, class_end, place_of, reach, start_of, end_of}
@@ -23,19 +23,24 @@ use Rattle.kl_model.specs.declared.place.Placed.{Placed}
 use Rattle.kl_model.specs.declared.place.Placement.{Placement}
 use Rattle.kl_model.specs.declared.graph.Piece.{Piece}
 use Rattle.kl_model.specs.declared.graph.PieceId.{PieceId}
-use Rattle.kl_model.proofs.ClassMemory.{InOrder}
+use Rattle.kl_model.proofs.ClassMemory.{InOrder, start_past_base}
 use Rattle.kl_model.proofs.Covered.{In, here, there, in_right, IsWhole}
 use Rattle.kl_model.proofs.InOrder.{area_is, base-le, end-reach, le-start, le-up, page-pos}
 use Rattle.kl_write.proofs.AreaFound.{aligned-of, found}
 use Rattle.kl_write.proofs.Homes.{aligned-spreads}
-use Rattle.kl_write.proofs.KernelFile.{le_top}
+use Rattle.kl_write.proofs.KernelFile.{all_in, le_top}
 use Rattle.kl_write.proofs.LawBytes.{stands_within}
 use Rattle.kl_write.proofs.LawFields.{base_limit, got_area, got_size, inside, is_ordered, is_top, read, short}
 use Rattle.kl_write.proofs.Places.{le_unwrapped}
-use Rattle.kl_write.proofs.SoundLaid.{FourClasses, four_classes, piece_home, positive}
+use Rattle.kl_write.proofs.SlotWords.{in_slots}
+use Rattle.kl_write.proofs.SoundLaid.{in_get, FourClasses, four_classes, piece_home, positive}
 use Rattle.kl_write.proofs.Stands.{gap_in}
 use Rattle.kl_write.proofs.WholeOrder.{whole_order}
 use Rattle.kl_write.specs.InSpan.{AreFieldsInside, AreGapsInSpan, ArePiecesInSpan, AreShort, IsAreaInSpan}
+use Rattle.kl_write.specs.Targets.{IsPlacedTarget}
+use Rattle.kl_model.specs.Sound.{IsSoundField, IsSoundTarget}
+use Rattle.kl_model.specs.declared.graph.Target.{Target}
+use Rattle.kl_model.specs.declared.graph.Target.TheVariants.{Place, Abs, Edge, Name, Zero, Gone}
 use Rattle.kl_write.specs.LaidKernel.{HasAreaAddresses, IsLaidKernel}
 
 module _ (kit : Kit) (inputs : List Input) (g : Graph) (gaps : Option Gaps) (order : List ℕ) (p : Placement) (l : IsLaidKernel kit g gaps order p) (numbers : HasAreaAddresses p) where
@@ -62,6 +67,15 @@ module _ (kit : Kit) (inputs : List Input) (g : Graph) (gaps : Option Gaps) (ord
 
   pub text_span : IsAreaInSpan p 0
   text_span = record { known = known 0 (omega arith); starts = ordered.base; ordered = ordered.text; ends = in_top Text }
+
+  pub class_span : (c : Class) → IsAreaInSpan p (class_number c)
+  class_span Text = text_span
+  class_span Rodata = record { known = known 1 (omega arith); starts = start_past_base p Rodata ordered; ordered = ordered.rodata; ends = in_top Rodata }
+  class_span Rwdata = record { known = known 2 (omega arith); starts = start_past_base p Rwdata ordered; ordered = ordered.rwdata; ends = in_top Rwdata }
+  class_span Bss = record { known = known 3 (omega arith); starts = start_past_base p Bss ordered; ordered = ordered.bss; ends = in_top Bss }
+
+  pub base_fits : p.base ≤ BASE_LIMIT
+  base_fits = base_limit kit inputs g gaps order p l.kernel l.laid l.small l.base l.sound whole numbers
 
   -- an area of a class
   area_span : (c : Class) (from n : ℕ) (s : Spread) → AreasStand p (place_of p g) from (spreads kit g gaps order made c) → p.base ≤ from
@@ -149,6 +163,28 @@ module _ (kit : Kit) (inputs : List Input) (g : Graph) (gaps : Option Gaps) (ord
 
   pub gaps_span : IfSome gaps (λ z. AreGapsInSpan g z p)
   gaps_span = gaps_by gaps refl
+
+  -- the entry
+  placed_target : (t : Target) → IsSoundTarget kit g t → IsPlacedTarget g p t
+  placed_target (Place n k) h = let m = h.0 in omega (arith, placed_count, m)
+  placed_target (Abs n) h = tt
+  placed_target (Edge n e) h = let count = l.laid.count in omega (arith, count, h)
+  placed_target (Name n) h = tt
+  placed_target Zero h = tt
+  placed_target Gone h = tt
+
+  entry_by : (t : Option Target) → IfSome t (IsSoundTarget kit g) → IfSome t (IsPlacedTarget g p)
+  entry_by None h = tt
+  entry_by (Some t) h = placed_target t h
+
+  pub entry_placed : IfSome g.entry (IsPlacedTarget g p)
+  entry_placed = entry_by g.entry l.sound.entry
+
+  -- the targets of slots
+  pub slots_placed : All (IsPlacedTarget g p) (slots g)
+  slots_placed k d h =
+      let r = in_slots g (get_or (slots g) k d) (in_get (slots g) k d h) in
+      placed_target (get_or (slots g) k d) (subst (IsSoundTarget kit g) r.2 (all_in (IsSoundField kit g) g.fields r.0 l.sound.fields r.1).target)
 
   pub short_pieces : AreShort g
   short_pieces k d h = (l.sound.pieces k d h).short

@@ -1,13 +1,14 @@
 -- A kernel that is laid out, and what is known of the bytes that are made of it.
-use Rattle.std.specs.Prelude.{ℕ, ◌<◌, ◌≤◌, ◌^◌, ◌≡◌, List, [], Option, All}
+use Rattle.std.specs.Prelude.{ℕ, ◌<◌, ◌≤◌, ◌^◌, ◌≡◌, List, [], ◌++◌, flat_map, Option, All}
 use Rattle.kl_base.specs.declared.limits.TheConstants.{BASE_LIMIT, SPAN_LIMIT}
-use Rattle.kl_model.specs.Carries.{CarriesGraph, NamesPieces}
+use Rattle.kl_model.specs.Carries.{CarriesGraph, NamesPieces, kernel_head, segments_of}
 use Rattle.kl_model.specs.Faults.{range_faults}
 use Rattle.kl_model.specs.Image.{image_bytes}
 use Rattle.kl_model.specs.Laid.{Laid, span}
 use Rattle.kl_model.specs.Orders.{IsOrder, drawn_count}
 use Rattle.kl_model.specs.Sizes.{made_of}
 use Rattle.kl_model.specs.Sound.{IsSoundGraph}
+use Rattle.kl_model.specs.Written.{ehdr_bytes, phdr_bytes}
 use Rattle.kl_model.specs.declared.graph.Graph.{Graph}
 use Rattle.kl_model.specs.declared.kit.Kit.{Kit}
 use Rattle.kl_model.specs.declared.kit.KitKind.TheVariants.{Kernel}
@@ -28,6 +29,10 @@ pub record IsLaidKernel (kit : Kit) (g : Graph) (gaps : Option Gaps) (order : Li
 -- the areas of a placement start and end at numbers of 64 bits
 abbrev pub HasAreaAddresses : Placement → Type 0
 HasAreaAddresses p = All (λ x. (x.start < 2 ^ 64) × (x.end < 2 ^ 64)) p.areas
+
+-- the bytes of a kernel's headers
+abbrev pub kernel_headers : Placement → Graph → List ℕ
+kernel_headers p g = ehdr_bytes (kernel_head p g) ++ flat_map phdr_bytes (segments_of p)
 
 -- The bytes that `image_byte` gives for each place carry the graph, where each field's value is in range.
 abbrev pub ImageCarries : Type 0

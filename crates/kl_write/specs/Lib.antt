@@ -2,3 +2,4 @@ pub mod LaidKernel
 pub mod Windows
 pub mod Writes
 pub mod InSpan
+pub mod Targets

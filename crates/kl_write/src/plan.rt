@@ -1,11 +1,10 @@
 // An image that is made window by window.
 ghost use Rattle.std.specs.Prelude.{ℕ, List, ◌≡◌, ◌+◌, ◌<◌, ◌^◌, length, map, slice_index};
-ghost use Rattle.kl_model.specs.Image.{head_bytes, image_byte};
-ghost use Rattle.kl_model.specs.Leads.{filed_value};
+ghost use Rattle.kl_model.specs.Image.{image_byte};
+ghost use Rattle.kl_model.specs.Leads.{address_of, filed_value};
 ghost use Rattle.kl_model.specs.Slots.{slots};
 ghost use Rattle.kl_model.specs.Sound.{AreSourced};
-ghost use Rattle.kl_model.specs.Tables.{slot_value};
-ghost use Rattle.kl_write.specs.LaidKernel.{HasAreaAddresses, IsLaidKernel};
+ghost use Rattle.kl_write.specs.LaidKernel.{HasAreaAddresses, IsLaidKernel, kernel_headers};
 
 use crate::numbers::{write_fields, write_slots};
 use crate::padding::{pad, pad_gaps};
@@ -26,19 +25,20 @@ pub struct Plan<'a> {
     pub placement: &'a Placement,
     /// The bytes of the headers.
     pub head: Vec<u8>,
-    /// The number in each slot of the global offset table.
+    /// The address in each slot of the global offset table.
     pub slots: Vec<u64>,
     /// The value of each field, modulo 2^64.
     pub values: Vec<u64>,
 }
 
-/// Writes those bytes of an image that lie in the window `out`, which stands from `at` on in the file.
+/// Fills the window `out`, which stands from byte `at` of the file on, with the bytes of a kernel's image, and with zeros behind
+/// the image's end. What stood in the window before shows nowhere.
 pub fn fill(out: &mut [u8], at: u64, inputs: &[Input], plan: &Plan)
     requires laid { (order : List ℕ) × IsLaidKernel plan.now.kit.now plan.now.graph.now plan.now.gaps order plan.now.placement.now }
     requires addresses { HasAreaAddresses plan.now.placement.now }
     requires sources { AreSourced inputs.now plan.now.graph.now }
-    requires head { plan.now.head.items ≡ head_bytes plan.now.kit.now inputs.now plan.now.graph.now plan.now.gaps plan.now.placement.now }
-    requires slots { plan.now.slots.items ≡ map (slot_value plan.now.kit.now plan.now.placement.now plan.now.graph.now) (slots plan.now.graph.now) }
+    requires head { plan.now.head.items ≡ kernel_headers plan.now.placement.now plan.now.graph.now }
+    requires slots { plan.now.slots.items ≡ map (address_of plan.now.placement.now plan.now.graph.now) (slots plan.now.graph.now) }
     requires values { plan.now.values.items ≡ map (filed_value plan.now.kit.now plan.now.placement.now plan.now.graph.now) plan.now.graph.now.fields }
     requires window { at + length out.old < 2 ^ 63 }
     ensures long { length out.new ≡ length out.old }

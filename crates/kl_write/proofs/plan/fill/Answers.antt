@@ -1,7 +1,7 @@
 use Rattle.std.proofs.Common.{◌≡◌, ◌∙◌, length, ap, arith}
 use Rattle.std.proofs.lemmas.List.{length-map}
 use Rattle.kl_model.specs.Slots.{slots}
-use Rattle.kl_model.specs.Tables.{slot_value}
+use Rattle.kl_model.specs.Leads.{address_of}
 use Rattle.kl_write.proofs.Filled.{filled}
 use Rattle.kl_write.proofs.Spans.{fields_inside, fini_span, gaps_span, got_span, init_span, pieces_span, short_pieces, slots_room, text_span}
 use Rattle.kl_write.proofs.plan.fill.Goals as goal
@@ -38,7 +38,7 @@ pub write_slots-requires-clause-room : goal.write_slots-requires-clause-room
 write_slots-requires-clause-room c =
     let x = c.args.plan.now in
     let room = slots_room x.kit.now c.args.inputs.now x.graph.now x.gaps c.requires.laid.0 x.placement.now c.requires.laid.1 c.requires.addresses in
-    let count : length c.deref.result.now ≡ length (slots x.graph.now) = ap length (c.deref.ensures.value ∙ c.requires.slots) ∙ length-map (slots x.graph.now) (slot_value x.kit.now x.placement.now x.graph.now) in
+    let count : length c.deref.result.now ≡ length (slots x.graph.now) = ap length (c.deref.ensures.value ∙ c.requires.slots) ∙ length-map (slots x.graph.now) (address_of x.placement.now x.graph.now) in
     omega (arith, room, count)
 
 pub write_fields-requires-clause-fields : goal.write_fields-requires-clause-fields
