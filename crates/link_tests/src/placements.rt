@@ -1,13 +1,12 @@
-ghost use Rattle.std.specs.Prelude.{ℕ, ◌≡◌, ◌*◌, ◌<◌, ◌≤◌, ◌^◌, [], length, IfOk, All};
-ghost use Rattle.kl_model.specs.Fit.{IsKernelKit};
-ghost use Rattle.kl_model.specs.Simple.{IsSimplePiece, IsSimpleGraph};
+ghost use Rattle.std.specs.Prelude.{ℕ, ◌≡◌, ◌*◌, ◌<◌, ◌≤◌, ◌^◌, length, IfOk, All};
+ghost use Rattle.kl_model.specs.Sound.{IsSoundGraph};
+ghost use Rattle.link_tests.specs.Small.{IsSoundAmong};
 ghost use Rattle.kl_model.specs.declared.kit.Kit.{Kit};
-ghost use Rattle.kl_base.specs.declared.limits.TheConstants.{SIZE_LIMIT};
-ghost use Rattle.kl_model.specs.declared.kit.KitKind.TheVariants.{Kernel};
+ghost use Rattle.kl_base.specs.declared.limits.TheConstants.{BASE_LIMIT, SIZE_LIMIT};
 
 use kl_base::{Class, Listed, Name, NoMemory, PAGE, Range};
 use kl_layout::{LayoutFault, place};
-use kl_model::{AreaAt, Graph, Kit, Made, Part, Piece, PieceId, Placement, Word};
+use kl_model::{AreaAt, Gaps, Graph, Kit, Made, Part, Piece, PieceId, Placement, Word};
 use std::alloc::Global;
 use std::test::Fail;
 
@@ -21,8 +20,7 @@ const NO_MADE: Made = Made {
 // A kernel's kit whose base is a page of this number.
 fn kernel(alloc: Global, page: u64) -> Result<Kit, Fail>
     requires { page ≤ 0xffffffffe0000 }
-    ensures kernel { IfOk result (λ kit. IsKernelKit kit) }
-    ensures no_runs { IfOk result (λ kit. kit.runs ≡ []) }
+    ensures { IfOk result (λ kit. kit.base ≤ BASE_LIMIT) }
 {
     let output = Name::from_bytes(b"/bsd").ok().ok_or("a name")?;
     Ok(Kit::kernel(
@@ -37,7 +35,7 @@ fn kernel(alloc: Global, page: u64) -> Result<Kit, Fail>
 // The `.text` of an input, aligned to 16 bytes.
 fn text(input: u32, size: u64) -> Piece
     requires { size ≤ SIZE_LIMIT }
-    ensures { (inputs : ℕ) → input < inputs → IsSimplePiece inputs result }
+    ensures { (inputs : ℕ) → input < inputs → IsSoundAmong inputs result }
 {
     Piece {
         id: PieceId::Section { input, section: 1 },
@@ -54,7 +52,7 @@ fn graph(alloc: Global, parts: Vec<Part>, sizes: &[u64]) -> Result<Graph, NoMemo
     requires count { length sizes.now ≡ length parts.items }
     requires few { length sizes.now ≤ 16 }
     requires sizes { All (λ n. n ≤ SIZE_LIMIT) sizes.now }
-    ensures simple { IfOk result (λ g. (kit : Kit) → kit.kind ≡ Kernel → kit.runs ≡ [] → IsSimpleGraph kit g) }
+    ensures sound { IfOk result (λ g. (kit : Kit) → IsSoundGraph kit g) }
     ensures parts { IfOk result (λ g. g.parts ≡ parts.items) }
 {
     let mut pieces = Listed::new(alloc);
@@ -110,6 +108,37 @@ fn places_two_objects(rt: HostRuntime) -> Result<(), Fail> {
         [
             text, at_next, at_next, at_next, at_end, at_end, at_end, at_next, at_next, at_next,
             at_next, at_next, at_next, at_next, at_next,
+        ]
+        .as_slice()
+    );
+    Ok(())
+}
+
+// The gap stands behind head inputs, and each class has one.
+#[test]
+fn places_gaps(rt: HostRuntime) -> Result<(), Fail> {
+    let alloc = rt.alloc();
+    let kit = kernel(alloc, 0xf_ffff_fff8_1000)?;
+    let parts = vec![in alloc; Part::Head, Part::Drawn]?;
+    let graph = graph(alloc, parts, &[1, 5])?;
+    let gaps = Gaps {
+        text: 32,
+        rodata: 16,
+        rwdata: 16,
+        bss: 16,
+    };
+    let placement = place(alloc, &kit, &graph, Some(&gaps), &[0], &NO_MADE)
+        .ok()
+        .ok_or("no memory")?;
+    assert_eq!(rt;
+        addresses(alloc, &placement)?.as_slice(),
+        [
+            0xffff_ffff_8100_0000,
+            0xffff_ffff_8100_0030,
+            0xffff_ffff_8100_0010,
+            0xffff_ffff_8100_1000,
+            0xffff_ffff_8100_2000,
+            0xffff_ffff_8100_3000,
         ]
         .as_slice()
     );

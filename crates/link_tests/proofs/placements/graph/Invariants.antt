@@ -1,10 +1,10 @@
 use Rattle.std.proofs.Common.{◌≡◌, length}
 use Rattle.std.specs.Prelude.{All}
-use Rattle.kl_model.specs.Simple.{IsSimplePiece}
+use Rattle.link_tests.specs.Small.{IsSoundAmong}
 use Rattle.link_tests.proofs.placements.graph.Given as goal
 
 abbrev pub invariant-loop-input : goal.invariant-loop-input
 invariant-loop-input l = record {
-  simple : All (IsSimplePiece (length l.sizes)) l.pieces;
+  sound : All (IsSoundAmong (length l.sizes)) l.pieces;
   count : length l.pieces ≡ l.input;
 }

@@ -4,11 +4,11 @@ use Rattle.kl_model.specs.Orders.{drawn_count, IsOrder}
 use Rattle.kl_model.specs.declared.object.Part.{Part}
 use Rattle.link_tests.proofs.placements.places_drawn_inputs_in_both_orders.Goals as goal
 
-pub place-requires-clause-simple : goal.place-requires-clause-simple
-place-requires-clause-simple g c = c.in_ok-graph.ensures.simple c.in_ok-kit.kit c.in_ok-kit.ensures.kernel.kernel c.in_ok-kit.ensures.no_runs
+pub place-requires-clause-sound : goal.place-requires-clause-sound
+place-requires-clause-sound g c = c.in_ok-graph.ensures.sound c.in_ok-kit.kit
 
-pub place-requires-2-clause-simple : goal.place-requires-2-clause-simple
-place-requires-2-clause-simple g c = c.in_ok-graph.ensures.simple c.in_ok-kit.kit c.in_ok-kit.ensures.kernel.kernel c.in_ok-kit.ensures.no_runs
+pub place-requires-2-clause-sound : goal.place-requires-2-clause-sound
+place-requires-2-clause-sound g c = c.in_ok-graph.ensures.sound c.in_ok-kit.kit
 
 pub place-requires-2-clause-order : goal.place-requires-2-clause-order
 place-requires-2-clause-order g c =

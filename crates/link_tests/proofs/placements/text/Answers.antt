@@ -3,12 +3,12 @@ use Rattle.link_tests.proofs.placements.text.Goals as goal
 
 pub returns : goal.returns
 returns c = λ inputs h. record {
-  input = c.args.input;
-  section = 1;
-  from = refl;
-  known = h;
-  class = refl;
-  area = refl;
-  size = c.requires;
-  align = (4, omega arith, refl);
+  sound = λ kit g e. record {
+    origin = omega (arith, h, e);
+    area = refl;
+    size = c.requires;
+    align = (4, omega arith, refl);
+    short = omega arith;
+    blank = λ f. cc;
+  };
 }
