@@ -1,9 +1,5 @@
 -- Inputs that a test links.
-use Rattle.std.specs.Prelude.{ℕ, ◌≡◌, ◌≤◌, ◌^◌, length}
-use Rattle.kl_model.specs.Sound.{IsSoundPiece}
-use Rattle.kl_model.specs.declared.graph.Graph.{Graph}
-use Rattle.kl_model.specs.declared.graph.Piece.{Piece}
-use Rattle.kl_model.specs.declared.kit.Kit.{Kit}
+use Rattle.std.specs.Prelude.{◌≤◌, ◌^◌, length}
 use Rattle.kl_model.specs.declared.object.Input.{Input}
 
 -- an input whose counts are small, so that 300 of them are within all limits
@@ -12,7 +8,3 @@ pub record IsSmall (x : Input) : Type 0 where
   pub sections : length x.object.sections ≤ 64
   pub symbols : length x.object.symbols ≤ 64
   pub fields : length x.object.fields ≤ 64
-
--- a piece that is sound in every graph of so many inputs
-pub record IsSoundAmong (inputs : ℕ) (x : Piece) : Type 0 where
-  pub sound : (kit : Kit) (g : Graph) → length g.parts ≡ inputs → IsSoundPiece kit g x

@@ -1,6 +1,6 @@
 ghost use Rattle.std.specs.Prelude.{ℕ, ◌≡◌, ◌*◌, ◌<◌, ◌≤◌, ◌^◌, length, IfOk, All};
 ghost use Rattle.kl_model.specs.Sound.{IsSoundGraph};
-ghost use Rattle.link_tests.specs.Small.{IsSoundAmong};
+ghost use Rattle.link_tests.specs.SoundAmong.{IsSoundAmong};
 ghost use Rattle.kl_model.specs.declared.kit.Kit.{Kit};
 ghost use Rattle.kl_base.specs.declared.limits.TheConstants.{BASE_LIMIT, SIZE_LIMIT};
 

@@ -1,6 +1,6 @@
 use Rattle.std.proofs.Common.{◌≡◌, [], ◌∷◌, ◌++◌, length, length-append, ap, arith}
 use Rattle.std.proofs.lemmas.List.Elements.{All-append, All-cons, All-nil}
-use Rattle.link_tests.specs.Small.{IsSoundAmong}
+use Rattle.link_tests.specs.SoundAmong.{IsSoundAmong}
 use Rattle.link_tests.proofs.placements.graph.Goals as goal
 
 pub loop-input-preserved : goal.loop-input-preserved

@@ -1,6 +1,6 @@
 use Rattle.std.proofs.Common.{◌≡◌, length}
 use Rattle.std.specs.Prelude.{All}
-use Rattle.link_tests.specs.Small.{IsSoundAmong}
+use Rattle.link_tests.specs.SoundAmong.{IsSoundAmong}
 use Rattle.link_tests.proofs.placements.graph.Given as goal
 
 abbrev pub invariant-loop-input : goal.invariant-loop-input
