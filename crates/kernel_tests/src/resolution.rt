@@ -1,6 +1,8 @@
 // Resolution, from the text of a kit and the bytes of its objects to the link graph.
-ghost use Rattle.std.specs.Prelude.{◌≡◌, IfOk};
-ghost use Rattle.kl_model.specs.Fit.{IsKit};
+ghost use Rattle.std.specs.Prelude.{◌≡◌, ◌≤◌, All, AllPairs, IfOk};
+ghost use Rattle.kernel_tests.specs.Small.{IsSmall};
+ghost use Rattle.kl_model.specs.Fit.{IsFit, IsKit};
+ghost use Rattle.kl_model.specs.Kept.{part_number};
 ghost use Rattle.kl_model.specs.declared.kit.KitKind.TheVariants.{Kernel};
 
 use crate::kernels::inputs;
@@ -10,7 +12,7 @@ use crate::objects::{
 use kl_base::Class;
 use kl_kit::read_kit;
 use kl_model::area::{BSS, FIRST_RUN, TEXT};
-use kl_model::{FieldAt, Graph, Kit, KitKind, LinkFault, NameText, PieceId, Target};
+use kl_model::{FieldAt, Graph, Input, Kit, KitKind, LinkFault, NameText, PieceId, Target};
 use kl_sym::resolve;
 use std::alloc::Global;
 use std::test::Fail;
@@ -34,6 +36,20 @@ fn kit(alloc: Global, lines: &[u8]) -> Result<Kit, Fail>
     Ok(kit)
 }
 
+/// The graph of a kit and its inputs.
+fn resolved_of(alloc: Global, kit: &Kit, inputs: &[Input]) -> Result<Result<Graph, LinkFault>, Fail>
+    requires form { IsKit kit.now }
+    requires kernel { kit.now.kind ≡ Kernel }
+    requires fit { All IsFit inputs.now }
+    requires small { All IsSmall inputs.now }
+    requires places { AllPairs (λ x y. part_number x.place ≤ part_number y.place) inputs.now }
+{
+    if inputs.len() > 301 {
+        return Err(Fail::from("many objects"));
+    }
+    Ok(resolve(alloc, kit, inputs))
+}
+
 /// The graph of a kit with these lines and objects, the first of them the head.
 fn resolved(
     alloc: Global,
@@ -42,10 +58,7 @@ fn resolved(
 ) -> Result<Result<Graph, LinkFault>, Fail> {
     let kit = kit(alloc, lines)?;
     let inputs = inputs(alloc, objects)?;
-    if inputs.len() > 301 {
-        return Err(Fail::from("many objects"));
-    }
-    Ok(resolve(alloc, &kit, &inputs))
+    resolved_of(alloc, &kit, &inputs)
 }
 
 /// Whether a kit has a graph of so many pieces, whose fields lead to these targets.
