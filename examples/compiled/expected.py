@@ -1,5 +1,5 @@
 """What relink is to answer for one object, by the tables of docs/formats.md and the rules of docs/definitions.md: its first flaw,
-whether it is linked so far, the first fault of its link, and the image.
+whether its link has a fault, and the image.
 
 The program is compared with this second reading of the documents, which shares nothing with it and is written to be read.
 """
@@ -11,13 +11,25 @@ SIZE_LIMIT = 1 << 30
 
 NULL, PROGBITS, SYMTAB, STRTAB, RELA, NOTE, NOBITS, REL = 0, 1, 2, 3, 4, 7, 8, 9
 INIT_ARRAY, FINI_ARRAY, GROUP, UNWIND = 14, 15, 17, 0x70000001
-WRITE, ALLOC, EXECINSTR, TLS, COMPRESSED = 1, 2, 4, 0x400, 0x800
-KNOWN_FLAGS = 0x80000E77
-ABS, COMMON = 0xFFF1, 0xFFF2
-LOCAL, GLOBAL = 0, 1
+WRITE, ALLOC, EXECINSTR, TLS, COMPRESSED, EXCLUDE = 1, 2, 4, 0x400, 0x800, 0x80000000
+UNDEF, ABS, COMMON = 0, 0xFFF1, 0xFFF2
+LOCAL, GLOBAL, WEAK = 0, 1, 2
 WIDTHS = {0: 0, 1: 8, 2: 4, 4: 4, 9: 4, 10: 4, 11: 4, 12: 2, 13: 2, 14: 1, 15: 1, 24: 8, 41: 4, 42: 4}
 PRIORITIES = (b".init_array.", b".fini_array.", b".ctors.", b".dtors.")
-AREAS = (b".init", b".fini", b".eh_frame", b".ctors", b".dtors", b".init_array", b".fini_array")
+SLOT_TYPES = (9, 41, 42)
+RELATIVE_TYPES = (2, 4, 13, 15, 24)
+# The widths of values that have a sign, that have none, and that may have one.
+SIGNED = {2: 32, 4: 32, 9: 32, 11: 32, 13: 16, 15: 8, 41: 32, 42: 32}
+UNSIGNED = {10: 32}
+EITHER = {12: 16, 14: 8}
+# The classes in order, each with the areas that stand behind its ordinary pieces, and the permission of its header.
+CLASSES = {
+    "text": ((b".init", b".fini"), 5),
+    "rodata": ((b".eh_frame",), 4),
+    "data": ((b".ctors", b".dtors", b".init_array", b".fini_array"), 6),
+    "bss": ((), 6),
+}
+AREA_TYPES = {INIT_ARRAY: b".init_array", FINI_ARRAY: b".fini_array"}
 
 
 class Flaw(Exception):
@@ -225,7 +237,7 @@ class Object:
                 self.fields.append(f)
 
     def read_groups(self):
-        self.has_comdat = False
+        self.comdats = []
         grouped = set()
         for n, s in enumerate(self.sections):
             if n == 0 or s.kind != GROUP:
@@ -239,92 +251,206 @@ class Object:
             flags = number(self.bytes, s.offset, 4)
             if flags > 1:
                 raise Flaw("GroupForm", s.offset)
-            self.has_comdat |= flags == 1
+            members = []
             for place in range(s.offset + 4, s.offset + s.size, 4):
                 member = number(self.bytes, place, 4)
                 if member == 0 or member >= len(self.sections) or member == n or member in grouped:
                     raise Flaw("GroupForm", place)
                 grouped.add(member)
+                members.append(member)
+            if flags == 1:
+                self.comdats.append((self.signature(s.info), members))
 
-    def is_simple(self):
-        """Whether the object is of the form that is linked so far."""
-        return (
-            not self.has_comdat
-            and all(
-                s.kind == PROGBITS and s.flags & KNOWN_FLAGS == ALLOC | EXECINSTR and s.text not in AREAS
-                for s in self.sections[1:] if s.flags & ALLOC
-            )
-            and all(
-                y.binding == GLOBAL and y.visibility == 0 and y.section != COMMON
-                for y in self.symbols if y.binding != LOCAL
-            )
-            and all(f.kind in (0, 1, 2, 4) or f.kind not in WIDTHS for f in self.fields)
-        )
+    def signature(self, n):
+        """The name of a group: that of its symbol, or of the section of a symbol of type SECTION."""
+        y = self.symbols[n]
+        return self.sections[y.section].text if y.kind == 3 and 0 < y.section < len(self.sections) else y.text
 
-    def link(self, entry):
-        """The kernel image of the object alone, whose entry is this name."""
-        addresses, end = {}, BASE
-        for n, s in enumerate(self.sections):
-            if s.flags & ALLOC:
-                align = max(s.align, 1)
-                addresses[n] = (end + align - 1) // align * align
-                end = addresses[n] + s.size
-        definitions = {}
-        for y in self.symbols:
-            if y.binding == GLOBAL and (y.section == ABS or y.section in addresses):
-                if y.text in definitions:
-                    raise LinkFault("Doubled")
-                definitions[y.text] = y.value + addresses.get(y.section, 0)
-        if entry not in definitions:
+    def kept(self):
+        """The numbers of the sections that are linked."""
+        seen, removed = set(), set()
+        for name, members in self.comdats:
+            if name in seen:
+                removed.update(members)
+            seen.add(name)
+        return [n for n, s in enumerate(self.sections) if s.flags & ALLOC and not s.flags & EXCLUDE and n not in removed]
+
+
+def class_of(s):
+    if s.flags & EXECINSTR:
+        return "text"
+    if not s.flags & WRITE:
+        return "rodata"
+    return "bss" if s.kind == NOBITS else "data"
+
+
+def area_of(s):
+    """The area in which a section stands, by its name or else by its type; None for an ordinary one."""
+    areas = CLASSES[class_of(s)][0]
+    for area in (s.text, AREA_TYPES.get(s.kind)):
+        if area in areas:
+            return area
+    return None
+
+
+class Kernel:
+    """The kernel of one object, whose entry is a name; making one that has a fault raises it."""
+
+    def __init__(self, read, entry):
+        self.read = read
+        self.addresses = {}
+        self.parts = []  # class, address, size, bytes, padding before it
+        self.loads = []  # class, start, end
+        self.kept = read.kept()
+        self.name_symbols()
+        if entry not in self.definitions:
             raise LinkFault("NoEntry")
-        fields = []
-        for f in self.fields:
-            y = self.symbols[f.symbol]
-            if f.kind == 0:
+        self.find_targets()
+        self.place()
+        if self.loads[-1][2] - BASE > SPAN_LIMIT:
+            raise LinkFault("Span")
+        self.write(entry)
+
+    def name_symbols(self):
+        """Where each name leads: to its GLOBAL definition, its common, or its first WEAK definition."""
+        globals_, commons, weaks = {}, {}, {}
+        for y in self.read.symbols:
+            if y.binding == LOCAL:
+                continue
+            if y.section == COMMON:
+                size, align = commons.get(y.text, (0, 1))
+                commons[y.text] = max(size, y.size), max(align, y.value)
+            elif y.section == ABS or y.section in self.kept:
+                if y.binding == GLOBAL and y.text in globals_:
+                    raise LinkFault("Doubled")
+                (globals_ if y.binding == GLOBAL else weaks).setdefault(y.text, self.own_target(y))
+        self.commons = [(name, *form) for name, form in commons.items() if name not in globals_]
+        named = {name: ("common " + str(k), 0) for k, (name, _, _) in enumerate(self.commons)}
+        self.definitions = {**weaks, **named, **globals_}
+
+    def own_target(self, y):
+        """The target of a symbol that has a section, or is absolute: a piece and the offset in it, or "absolute" and the value."""
+        return ("absolute", y.value) if y.section == ABS else (y.section, y.value)
+
+    def target(self, f):
+        """What a field leads to; None where that is nothing at all."""
+        y = self.read.symbols[f.symbol]
+        if f.symbol == 0:
+            return "absolute", 0
+        if y.binding != LOCAL:
+            if y.text in self.definitions:
+                return self.definitions[y.text]
+            if y.binding == WEAK:
+                return "zero", 0
+            raise LinkFault("Undefined")
+        if y.section == ABS or y.section in self.kept:
+            return self.own_target(y)
+        if self.read.sections[f.section].text == b".eh_frame":
+            return None
+        raise LinkFault("Removed")
+
+    def find_targets(self):
+        """The fields that are linked, each with its target, and the targets that need eight bytes in the table."""
+        self.fields, self.slots = [], []
+        for f in self.read.fields:
+            if f.section not in self.kept or f.kind == 0:
                 continue
             if f.kind not in WIDTHS:
                 raise LinkFault("Kind")
-            if f.symbol == 0:
-                target = 0
-            elif y.binding == LOCAL and y.section == ABS:
-                target = y.value
-            elif y.binding == LOCAL:
-                if y.section not in addresses:
-                    raise LinkFault("Removed")
-                target = addresses[y.section] + y.value
-            elif y.text in definitions:
-                target = definitions[y.text]
-            else:
-                raise LinkFault("Undefined")
-            fields.append((f, target))
-        if (end + PAGE - 1) // PAGE * PAGE - BASE > SPAN_LIMIT:
-            raise LinkFault("Span")
-        return self.image(addresses, end, fields, definitions[entry])
+            target = self.target(f)
+            self.fields.append((f, target))
+            if f.kind in SLOT_TYPES and target is not None and target not in self.slots:
+                self.slots.append(target)
 
-    def image(self, addresses, end, fields, entry):
-        start = min(addresses.values(), default=BASE)
-        text = bytearray(b"\xcc" * (end - start))
-        for n, address in addresses.items():
-            s = self.sections[n]
-            text[address - start:address - start + s.size] = self.bytes[s.offset:s.offset + s.size]
-        for f, target in fields:
-            place = addresses[f.section] + f.offset
-            value = (target + f.addend - (place if f.kind in (2, 4) else 0)) % 2**64
-            if f.width == 4 and not (value < 2**31 or value >= 2**64 - 2**31):
-                raise LinkFault("Range")
-            text[place - start:place - start + f.width] = value.to_bytes(8, "little")[:f.width]
-        loads = 1 if text else 0
+    def place(self):
+        """Lays out the classes, one behind the other."""
+        at = BASE
+        for name, (areas, _) in CLASSES.items():
+            at = up(at, PAGE)
+            mine = [n for n in self.kept if class_of(self.read.sections[n]) == name]
+            padding = b"\xcc" if name == "text" else b"\0"
+            for area in (None, *areas):
+                inner = padding
+                for n in mine:
+                    s = self.read.sections[n]
+                    if area_of(s) == area:
+                        bytes_ = None if s.kind == NOBITS else self.read.bytes[s.offset:s.offset + s.size]
+                        at = self.put(name, n, at, max(s.align, 1), s.size, bytes_, inner)
+                        inner = b"\x90" if area in (b".init", b".fini") else padding
+            if name == "rodata" and self.slots:
+                at = self.put(name, "table", at, 8, 8 * len(self.slots), None, padding)
+            if name == "bss":
+                for k, (_, size, align) in enumerate(self.commons):
+                    at = self.put(name, "common " + str(k), at, align, size, None, padding)
+            start = next((part[1] for part in self.parts if part[0] == name), at)
+            self.loads.append((name, start, at))
+
+    def put(self, name, key, at, align, size, bytes_, padding):
+        """Puts a part of a class at the next place that its alignment divides, and answers its end."""
+        self.addresses[key] = up(at, align)
+        self.parts.append((name, self.addresses[key], size, bytes_, padding))
+        return self.addresses[key] + size
+
+    def address(self, target):
+        """The psABI's S of a target."""
+        where, value = target
+        return value if where in ("absolute", "zero") else self.addresses[where] + value
+
+    def write(self, entry):
+        """The bytes of the file."""
+        loads = [load for load in self.loads if load[2] > load[1]]
+        ends = [end for name, _, end in loads if name != "bss"]
+        memory = bytearray(ends[-1] - BASE if ends else 0)
+        for name, start, end in loads:
+            if name != "bss":
+                self.fill(memory, name, start)
+        for k, target in enumerate(self.slots):
+            place = self.addresses["table"] + 8 * k - BASE
+            memory[place:place + 8] = (self.address(target) % 2**64).to_bytes(8, "little")
+        for f, target in self.fields:
+            place = self.addresses[f.section] + f.offset
+            value = 0 if target is None else self.value(f, target, place)
+            memory[place - BASE:place - BASE + f.width] = value.to_bytes(8, "little")[:f.width]
+        headers = b""
+        for name, start, end in loads:
+            size = end - start
+            words = (PAGE + start - BASE, start, start, 0 if name == "bss" else size, size, PAGE)
+            headers += b"".join(n.to_bytes(4, "little") for n in (1, CLASSES[name][1]))
+            headers += b"".join(n.to_bytes(8, "little") for n in words)
         numbers = (
-            (2, 2), (62, 2), (1, 4), (entry % 2**64, 8), (64 * loads, 8), (0, 8), (0, 4), (64, 2), (56, 2), (loads, 2),
-            (0, 2), (0, 2), (0, 2),
+            (2, 2), (62, 2), (1, 4), (self.address(self.definitions[entry]) % 2**64, 8), (64 if loads else 0, 8), (0, 8),
+            (0, 4), (64, 2), (56, 2), (len(loads), 2), (0, 2), (0, 2), (0, 2),
         )
-        image = b"\x7fELF\x02\x01\x01" + bytes(9) + b"".join(n.to_bytes(width, "little") for n, width in numbers)
-        if loads:
-            offset = PAGE + start - BASE
-            words = (offset, start, start, len(text), len(text), PAGE)
-            image += b"\x01\0\0\0\x05\0\0\0" + b"".join(n.to_bytes(8, "little") for n in words)
-            image = image.ljust(offset, b"\0") + bytes(text)
-        return image
+        image = b"\x7fELF\x02\x01\x01" + bytes(9) + b"".join(n.to_bytes(width, "little") for n, width in numbers) + headers
+        self.image = image.ljust(PAGE, b"\0") + bytes(memory) if ends else image
+
+    def fill(self, memory, name, start):
+        """Puts the pieces of a class and the padding between them."""
+        at = start
+        for of, address, size, bytes_, padding in self.parts:
+            if of != name:
+                continue
+            memory[at - BASE:address - BASE] = padding * (address - at)
+            if bytes_ is not None:
+                memory[address - BASE:address - BASE + size] = bytes_
+            at = address + size
+
+    def value(self, f, target, place):
+        """The value of a field, modulo 2^64."""
+        s = self.addresses["table"] + 8 * self.slots.index(target) if f.kind in SLOT_TYPES else self.address(target)
+        v = (s + f.addend - (place if f.kind in SLOT_TYPES + RELATIVE_TYPES else 0)) % 2**64
+        signed, unsigned, either = SIGNED.get(f.kind), UNSIGNED.get(f.kind), EITHER.get(f.kind)
+        if (
+            signed and not (v < 2**(signed - 1) or v >= 2**64 - 2**(signed - 1))
+            or unsigned and v >= 2**unsigned
+            or either and not (v < 2**either or v >= 2**64 - 2**(either - 1))
+        ):
+            raise LinkFault("Range")
+        return v
+
+
+def up(n, align):
+    return (n + align - 1) // align * align
 
 
 def expected(bytes_, entry):
@@ -332,10 +458,7 @@ def expected(bytes_, entry):
     if bytes_[:8] in (b"!<arch>\n", b"!<thin>\n"):
         return 19, "an archive", None
     try:
-        read = Object(bytes_)
-        if not read.is_simple():
-            return 19, "not linked yet", None
-        return 0, "linked", read.link(entry)
+        return 0, "linked", Kernel(Object(bytes_), entry).image
     except Flaw as flaw:
         return 13, str(flaw), None
     except LinkFault as fault:

@@ -1,5 +1,7 @@
 // Kernels of several objects, from the bytes of the objects to the bytes of the image.
-ghost use Rattle.std.specs.Prelude.{ℕ, ◌≡◌, ◌+◌, ◌<◌, ◌≤◌, ◌∷◌, [], length, map, All, AllPairs, IfOk};
+ghost use Rattle.std.specs.Prelude.{ℕ, ◌≡◌, ◌+◌, ◌<◌, ◌≤◌, ◌∷◌, [], length, map, All, AllPairs, IfOk, IfSome};
+ghost use Rattle.std.specs.Option.{option_copied};
+ghost use Rattle.kl_layout.specs.Spans.{AreGaps, IsGap};
 ghost use Rattle.std.specs.List.{range_with_len};
 ghost use Rattle.kl_model.specs.Fit.{IsFit, IsKit};
 ghost use Rattle.kl_model.specs.Kept.{part_number};
@@ -7,12 +9,13 @@ ghost use Rattle.kl_model.specs.Orders.{IsOrder, drawn_count};
 ghost use Rattle.kl_model.specs.declared.kit.KitKind.TheVariants.{Kernel};
 ghost use Rattle.kernel_tests.specs.Small.{IsSmall};
 
-use crate::objects::{CALL, FAR, GONE, GOT, LOCORE, NOWHERE, ONE, QUAD, RING, THREE, TWO, X};
+use crate::objects::{
+    CALL, FAR, GONE, GOT, LARGE, LARGER, LOCORE, NOWHERE, ONE, QUAD, RING, SLOT, THREE, TWO, X,
+};
 use kl_base::{Listed, Name};
 use kl_kernel::link_kernel;
-use kl_model::{FieldAt, Input, Kit, LinkFault, Linked, Part, Word};
+use kl_model::{FieldAt, Gaps, Input, Kit, LinkFault, Linked, Part, Word};
 use kl_rel::read_object;
-use kl_sym::is_simple;
 use std::alloc::Global;
 use std::test::Fail;
 
@@ -89,18 +92,34 @@ fn drawn(inputs: &[Input]) -> usize
     count
 }
 
-/// Links a kernel whose drawn inputs stand in an order.
+/// Links a kernel whose drawn inputs stand in an order, with gaps, if there are some.
+fn link_with(
+    alloc: Global,
+    inputs: &[Input],
+    gaps: Option<&Gaps>,
+    order: &[u32],
+) -> Result<Result<Linked, LinkFault>, Fail>
+    requires fit { All IsFit inputs.now }
+    requires small { All IsSmall inputs.now }
+    requires places { AllPairs (λ x y. part_number x.place ≤ part_number y.place) inputs.now }
+    requires gaps { IfSome (option_copied gaps) AreGaps }
+    requires order { IsOrder (length order.now) order.now }
+{
+    let kit = kernel(alloc)?;
+    if inputs.len() > 301 || drawn(inputs) != order.len() {
+        return Err(Fail::from("another number of inputs"));
+    }
+    Ok(link_kernel(alloc, &kit, inputs, gaps, order))
+}
+
+/// Links a kernel without gaps.
 fn link(alloc: Global, inputs: &[Input], order: &[u32]) -> Result<Result<Linked, LinkFault>, Fail>
     requires fit { All IsFit inputs.now }
     requires small { All IsSmall inputs.now }
     requires places { AllPairs (λ x y. part_number x.place ≤ part_number y.place) inputs.now }
     requires order { IsOrder (length order.now) order.now }
 {
-    let kit = kernel(alloc)?;
-    if inputs.len() > 301 || drawn(inputs) != order.len() || !is_simple(&kit, inputs) {
-        return Err(Fail::from("a kit that isn't simple"));
-    }
-    Ok(link_kernel(alloc, &kit, inputs, None, order))
+    link_with(alloc, inputs, None, order)
 }
 
 /// The bytes of an image from a place on, as far as it has them.
@@ -154,6 +173,62 @@ fn writes_an_address(rt: HostRuntime) -> Result<(), Fail> {
     assert_eq!(rt;
         bytes_at(&linked.image, 4096 + 0x11, 8),
         b"\x00\x00\x00\x81\xff\xff\xff\xff".as_slice()
+    );
+    Ok(())
+}
+
+#[test]
+fn leads_through_a_slot(rt: HostRuntime) -> Result<(), Fail> {
+    let alloc = rt.alloc();
+    let inputs = inputs(alloc, &[SLOT])?;
+    let linked = link(alloc, &inputs, &[])?.ok().ok_or("a kernel")?;
+    assert_eq!(rt; (linked.fields, linked.image.len()), (1, 8200));
+    assert_eq!(rt;
+        bytes_at(&linked.image, 4096, 7),
+        b"\x48\x8b\x05\xf9\x0f\x00\x00".as_slice()
+    );
+    assert_eq!(rt;
+        bytes_at(&linked.image, 2 * 4096, 8),
+        b"\x00\x00\x00\x81\xff\xff\xff\xff".as_slice()
+    );
+    Ok(())
+}
+
+/// A head and a drawn call of it, with a gap of so many bytes in text and gaps of 16 bytes elsewhere.
+fn call_behind(alloc: Global, text: u64) -> Result<Linked, Fail>
+    requires { IsGap text }
+{
+    let inputs = inputs(alloc, &[LOCORE, CALL])?;
+    let gaps = Gaps {
+        text,
+        rodata: 16,
+        rwdata: 16,
+        bss: 16,
+    };
+    Ok(
+        link_with(alloc, &inputs, Some(&gaps), &[0])?
+            .ok()
+            .ok_or("a kernel")?,
+    )
+}
+
+#[test]
+fn moves_drawn_objects_by_the_gap(rt: HostRuntime) -> Result<(), Fail> {
+    let alloc = rt.alloc();
+    let linked = call_behind(alloc, 16)?;
+    assert_eq!(rt;
+        (place_of(&linked, 1), linked.image.len()),
+        (4096 + 0x20, 12_304)
+    );
+    assert_eq!(rt;
+        bytes_at(&linked.image, 4096 + 0x20, 5),
+        b"\xe8\xdb\xff\xff\xff".as_slice()
+    );
+    let linked = call_behind(alloc, 32)?;
+    assert_eq!(rt; place_of(&linked, 1), 4096 + 0x30);
+    assert_eq!(rt;
+        bytes_at(&linked.image, 4096 + 0x30, 5),
+        b"\xe8\xcb\xff\xff\xff".as_slice()
     );
     Ok(())
 }
@@ -231,6 +306,33 @@ fn names_a_field_that_does_not_link(rt: HostRuntime) -> Result<(), Fail> {
     assert!(rt; has_fault(alloc, FAR, range)?);
     assert!(rt; has_fault(alloc, GOT, LinkFault::Kind { from, number: 3 })?);
     assert!(rt; has_fault(alloc, GONE, LinkFault::Removed { from })?);
+    Ok(())
+}
+
+#[test]
+fn spans_no_more_than_the_limit(rt: HostRuntime) -> Result<(), Fail> {
+    let alloc = rt.alloc();
+    let large = inputs(alloc, &[LARGE])?;
+    let linked = link(alloc, &large, &[])?.ok().ok_or("a kernel")?;
+    // One program header, of type PT_LOAD and with p_filesz 0 (gABI, "Program Header").
+    assert_eq!(rt;
+        (linked.image.len(), bytes_at(&linked.image, 56, 2)),
+        (64 + 56, b"\x01\x00".as_slice())
+    );
+    assert_eq!(rt;
+        bytes_at(&linked.image, 64, 4),
+        b"\x01\x00\x00\x00".as_slice()
+    );
+    assert_eq!(rt;
+        bytes_at(&linked.image, 64 + 32, 16),
+        b"\x00\x00\x00\x00\x00\x00\x00\x00\x00\x00\x00\x20\x00\x00\x00\x00".as_slice()
+    );
+    let larger = inputs(alloc, &[LARGER])?;
+    let span = LinkFault::Span {
+        found: 536_870_913,
+        limit: 536_870_912,
+    };
+    assert!(rt; fault(alloc, &larger, &[])? == span);
     Ok(())
 }
 

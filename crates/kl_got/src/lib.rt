@@ -10,3 +10,4 @@ mod way;
 pub use fields::needs;
 pub use index::SlotIndex;
 pub use stub::{JUMP_SIZE, stub_bytes};
+pub use way::takes_slot;

@@ -1,3 +1,3 @@
+pub mod Readings
+pub mod KitLines
 pub mod Written
-pub mod Refused
-pub mod OneInput

@@ -1,5 +1,6 @@
 // Why a command ended.
 use kl_base::{Name, NoMemory};
+use kl_kit::KitFault;
 use kl_model::LinkFault;
 use kl_rel::ReadFault;
 use kl_store::Failed;
@@ -40,6 +41,8 @@ pub enum ObjectCause {
 /// Why a kit isn't read.
 #[derive(Clone, Copy, Debug, PartialEq, Eq)]
 pub enum KitCause {
+    /// The first fault of the kit text.
+    Text(KitFault),
     /// There is no file of the name.
     Absent(Name),
     /// The file is longer than its limit.
@@ -51,6 +54,10 @@ pub enum KitCause {
 /// What a kit has too much of.
 #[derive(Clone, Copy, Debug, PartialEq, Eq)]
 pub enum TotalOf {
+    /// More than 16,384 inputs.
+    Inputs,
+    /// More than 256 MiB.
+    Bytes,
     /// More than 2^20 sections.
     Sections,
     /// More than 2^22 symbols.

@@ -1,11 +1,16 @@
 // The words of causes. Inputs have numbers here: who has the kit text can tell their names.
 use crate::cause::{Cause, KitCause, ObjectCause, TotalOf};
-use kl_base::{FIELD_COUNT_LIMIT, SECTION_COUNT_LIMIT, SYMBOL_COUNT_LIMIT};
+use kl_base::{
+    FIELD_COUNT_LIMIT, INPUT_BYTES_LIMIT, INPUT_COUNT_LIMIT, SECTION_COUNT_LIMIT,
+    SYMBOL_COUNT_LIMIT,
+};
 use std::fmt;
 
 impl fmt::Display for TotalOf {
     fn fmt<W: fmt::Write>(&self, f: &mut fmt::Formatter<W>) -> fmt::Result {
         match self {
+            TotalOf::Inputs => write!(f, "more than {INPUT_COUNT_LIMIT} inputs"),
+            TotalOf::Bytes => write!(f, "more than {INPUT_BYTES_LIMIT} bytes of inputs"),
             TotalOf::Sections => write!(f, "more than {SECTION_COUNT_LIMIT} sections"),
             TotalOf::Symbols => write!(f, "more than {SYMBOL_COUNT_LIMIT} symbols"),
             TotalOf::Fields => write!(f, "more than {FIELD_COUNT_LIMIT} relocations"),
@@ -16,6 +21,7 @@ impl fmt::Display for TotalOf {
 impl fmt::Display for KitCause {
     fn fmt<W: fmt::Write>(&self, f: &mut fmt::Formatter<W>) -> fmt::Result {
         match self {
+            KitCause::Text(fault) => write!(f, "{fault}"),
             KitCause::Absent(_) => f.write_str("a file of the kit is absent"),
             KitCause::TooLong(_) => f.write_str("a file of the kit is longer than its limit"),
             KitCause::Total { what, line } => write!(

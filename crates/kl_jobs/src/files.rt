@@ -1,7 +1,10 @@
 // Files of a kit.
-ghost use Rattle.std.specs.Prelude.{◌≡◌, ◌≤◌, Some, length, IfOk, IfErr, IsErrOf};
+ghost use Rattle.std.specs.Prelude.{◌≡◌, ◌≤◌, ◌++◌, ◌∷◌, None, Some, length, IfOk, IfErr, IsErrOf};
 ghost use Rattle.kl_store.specs.Calls.{Holds, Rose, Stays};
-ghost use Rattle.kl_jobs.specs.Refusals.{IsRefusal, Refuses, file_fault};
+ghost use Rattle.kl_base.specs.Names.{name_fault};
+ghost use Rattle.kl_base.specs.declared.limits.TheConstants.{FILE_LIMIT};
+ghost use Rattle.kl_jobs.specs.Reading.{file_fault};
+ghost use Rattle.kl_jobs.specs.Refusals.{IsRefusal, Refuses};
 
 use crate::cause::{Cause, KitCause};
 use kl_base::Name;
@@ -30,4 +33,14 @@ pub fn read_file<S: Store>(
         Err(WholeFault::Failed) => Err(Cause::Store),
         Err(WholeFault::NoMemory) => Err(Cause::NoMemory),
     }
+}
+
+/// The name of a file in a folder.
+pub fn file_in(dir: &Name, file: &[u8]) -> Name
+    requires dir { length dir.now ≤ FILE_LIMIT }
+    requires file { length file.now ≤ FILE_LIMIT }
+    requires name { name_fault (47 ∷ file.now) ≡ None }
+    ensures { result ≡ dir.now ++ 47 ∷ file.now }
+{
+    dir.join(&Name::at_root(file).unwrap())
 }

@@ -4,8 +4,8 @@
 mod cause;
 mod display;
 mod files;
-mod input;
 mod link;
+mod reading;
 
 pub use cause::{Cause, KitCause, ObjectCause, TotalOf};
 pub use link::link_only;

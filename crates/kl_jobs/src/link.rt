@@ -1,27 +1,24 @@
 // `link DIR`: one kit, linked into the kit's own folder.
-ghost use Rattle.std.specs.Prelude.{◌≡◌, ◌≤◌, ◌⊎◌, [], ◌∷◌, ◌++◌, None, Some, length, IfOk, IfErr, OnOk, IsErrOf};
-ghost use Rattle.std.specs.Option.{ForSome, option_map};
+ghost use Rattle.std.specs.Prelude.{◌≡◌, ◌≤◌, ◌⊎◌, None, Some, length, map, IfOk, IfErr, OnOk, IsErrOf};
+ghost use Rattle.std.specs.Option.{ForSome};
 ghost use Rattle.kl_store.specs.Calls.{HasCause, Rose, Stays};
 ghost use Rattle.kl_store.specs.Files.{HasFiles, SameFiles};
 ghost use Rattle.kl_store.specs.Images.{Ends, LeavesOfDisk};
-ghost use Rattle.kl_model.specs.Faults.{link_fault};
-ghost use Rattle.kl_jobs.specs.Refusals.{IsRefusal, Refuses, link_refusal};
+ghost use Rattle.kl_model.specs.Orders.{drawn_count};
+ghost use Rattle.kl_jobs.specs.Reading.{in_turn as drawn_in_turn};
+ghost use Rattle.kl_jobs.specs.Refusals.{IsRefusal, Refuses, kit_refusal, link_refusal};
 ghost use Rattle.kl_jobs.specs.Links.{AreLinked, IsKitOf, IsLinkable, IsLinked};
 ghost use Rattle.kl_jobs.specs.Writing.{IsPutPair};
-ghost use Rattle.kl_jobs.specs.declared.cause.Cause.TheVariants as cause;
-ghost use Rattle.kl_base.specs.Names.{name_fault};
-ghost use Rattle.kl_base.specs.declared.limits.TheConstants.{FILE_LIMIT};
+ghost use Rattle.kl_base.specs.declared.limits.TheConstants.{FILE_LIMIT, INPUT_COUNT_LIMIT};
 
 use crate::cause::Cause;
-use crate::files::read_file;
-use crate::input::read_input;
-use kl_base::{INPUT_LIMIT, KIT_TEXT_LIMIT, Name};
-use kl_first::{first_kit, kit_of};
+use crate::files::file_in;
+use crate::reading::{kit_order, read_inputs, read_text};
+use kl_base::{Name, NoMemory};
 use kl_kernel::link_kernel;
 use kl_map::{Map, print_map};
-use kl_model::{Input, Kit, LinkFault};
+use kl_model::{Input, Kit, LinkFault, Part};
 use kl_store::{Failed, Store, write_whole};
-use kl_sym::is_simple;
 use std::alloc::Global;
 
 /// A kit and its inputs in kit order.
@@ -59,6 +56,33 @@ pub fn link_only<S: Store>(alloc: Global, dir: &Name, store: &mut S) -> Result<(
     Ok(())
 }
 
+/// How many inputs are drawn.
+fn count_drawn(inputs: &[Input]) -> usize
+    ensures count { result ≡ drawn_count (map (λ x. x.place) inputs.now) }
+    ensures few { result ≤ length inputs.now }
+{
+    let mut count = 0;
+    for input in inputs {
+        if input.place == Part::Drawn {
+            count += 1;
+        }
+    }
+    count
+}
+
+/// The numbers of the drawn inputs, in the order in which the kit names them.
+fn in_turn(alloc: Global, inputs: &[Input]) -> Result<Vec<u32>, NoMemory>
+    requires { length inputs.now ≤ INPUT_COUNT_LIMIT }
+    ensures { IfOk result (λ order. order.items ≡ drawn_in_turn inputs.now) }
+{
+    let count = count_drawn(inputs) as u32;
+    let mut order = Vec::with_capacity(alloc, count as usize)?;
+    for number in 0..count {
+        order.push(number)?;
+    }
+    Ok(order)
+}
+
 /// The image of a kit and the text of its map.
 ///
 /// # Errors
@@ -67,10 +91,11 @@ pub fn link_only<S: Store>(alloc: Global, dir: &Name, store: &mut S) -> Result<(
 fn link_source(alloc: Global, source: &Source) -> Result<Files, Cause>
     requires { IsLinkable source.now.kit source.now.inputs.items }
     ensures linked { IfOk result (λ f. AreLinked source.now.kit source.now.inputs.items f.image.items f.map.items) }
-    ensures sound { OnOk result (link_fault source.now.kit source.now.inputs.items None [] ≡ None) }
-    ensures err { IfErr result (λ c. (c ≡ Cause.NoMemory) ⊎ (option_map cause.Link (link_fault source.now.kit source.now.inputs.items None []) ≡ Some c)) }
+    ensures sound { OnOk result (kit_refusal source.now.kit source.now.inputs.items ≡ None) }
+    ensures err { IfErr result (λ c. (c ≡ Cause.NoMemory) ⊎ (kit_refusal source.now.kit source.now.inputs.items ≡ Some c)) }
 {
-    let linked = match link_kernel(alloc, &source.kit, &source.inputs, None, &[]) {
+    let order = in_turn(alloc, &source.inputs)?;
+    let linked = match link_kernel(alloc, &source.kit, &source.inputs, None, &order) {
         Ok(linked) => linked,
         Err(LinkFault::NoMemory) => return Err(Cause::NoMemory),
         Err(fault) => return Err(Cause::Link(fault)),
@@ -85,11 +110,11 @@ fn link_source(alloc: Global, source: &Source) -> Result<Files, Cause>
     Ok(Files { image, map })
 }
 
-/// Reads the kit of a folder and its input. What is left to refuse is the fault of its link.
+/// Reads the kit of a folder and its inputs. What is left to refuse is the fault of its link.
 fn read_source<S: Store>(alloc: Global, dir: &Name, store: &mut S) -> Result<Source, Cause>
     requires { length dir.now ≤ FILE_LIMIT }
     ensures reads { IfOk result (λ s. ForSome (S.meaning store.old).names (λ m. IsKitOf m dir.now s.kit s.inputs.items)) }
-    ensures stands { IfOk result (λ s. ForSome (S.meaning store.old).names (λ m. link_refusal m dir.now ≡ option_map cause.Link (link_fault s.kit s.inputs.items None []))) }
+    ensures stands { IfOk result (λ s. ForSome (S.meaning store.old).names (λ m. link_refusal m dir.now ≡ kit_refusal s.kit s.inputs.items)) }
     ensures linkable { IfOk result (λ s. IsLinkable s.kit s.inputs.items) }
     ensures refused { IfErr result (Refuses (S.meaning store.old) (λ m. link_refusal m dir.now)) }
     ensures refusal { IfErr result IsRefusal }
@@ -97,28 +122,10 @@ fn read_source<S: Store>(alloc: Global, dir: &Name, store: &mut S) -> Result<Sou
     ensures faults { S.faults store.old ≤ S.faults store.new }
     ensures still { Stays (S.meaning store.old) (S.meaning store.new) }
 {
-    let text = read_file(alloc, store, &file_in(dir, b"link.conf"), KIT_TEXT_LIMIT)?;
-    let Some(first) = first_kit(&text) else {
-        return Err(Cause::NotYet);
-    };
-    let bytes = read_file(alloc, store, &file_in(dir, first.file), INPUT_LIMIT)?;
-    let input = read_input(alloc, bytes)?;
-    let kit = kit_of(alloc, &first)?;
-    let inputs = vec![in alloc; input]?;
-    if !is_simple(&kit, &inputs) {
-        return Err(Cause::NotYet);
-    }
+    let kit = read_text(alloc, dir, store)?;
+    let lines = kit_order(alloc, kit.inputs.items())?;
+    let inputs = read_inputs(alloc, store, dir, &lines)?;
     Ok(Source { kit, inputs })
-}
-
-/// The name of a file in a folder.
-fn file_in(dir: &Name, file: &[u8]) -> Name
-    requires dir { length dir.now ≤ FILE_LIMIT }
-    requires file { length file.now ≤ FILE_LIMIT }
-    requires name { name_fault (47 ∷ file.now) ≡ None }
-    ensures { result ≡ dir.now ++ 47 ∷ file.now }
-{
-    dir.join(&Name::at_root(file).unwrap())
 }
 
 /// Writes the image and the map of a folder, and settles.

@@ -1,11 +1,6 @@
-pub mod Places
-pub mod PieceBytes
-pub mod FieldValues
-pub mod FilledImages
-pub mod TextImages
-pub mod TextLines
-pub mod TextLaid
-pub mod TextCarries
+pub mod AreaAddresses
+pub mod Sources
+pub mod ImageMade
 pub mod LinkFaults
 pub mod LinkSteps
 pub mod OneTargets

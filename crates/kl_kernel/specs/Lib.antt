@@ -1,2 +1,1 @@
-pub mod TextImage
 pub mod OneTarget

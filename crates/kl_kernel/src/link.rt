@@ -1,38 +1,30 @@
 // Links a kernel.
-ghost use Rattle.std.specs.Prelude.{◌≡◌, ◌⊎◌, None, Some, length, map, IfErr, IfOk, IsTrue, OnOk};
+ghost use Rattle.std.specs.Prelude.{◌≡◌, ◌⊎◌, None, Some, length, map, IfErr, IfOk, IfSome, OnOk};
+ghost use Rattle.std.specs.Option.{option_copied};
+ghost use Rattle.kl_layout.specs.Spans.{AreGaps};
 ghost use Rattle.kl_model.specs.Carries.{Carries};
 ghost use Rattle.kl_model.specs.Faults.{link_fault};
 ghost use Rattle.kl_model.specs.Fit.{AreFit, IsKit};
 ghost use Rattle.kl_model.specs.Graphs.{graph};
 ghost use Rattle.kl_model.specs.Orders.{IsOrder, drawn_count};
-ghost use Rattle.kl_model.specs.Simple.{is_simple};
 ghost use Rattle.kl_model.specs.declared.kit.KitKind.TheVariants.{Kernel};
 
-use crate::image::text_image;
+use crate::image::{kernel_image, made_areas};
+use kl_got::needs;
 use kl_layout::place;
-use kl_model::{Gaps, Input, Kit, LinkFault, Linked, Made};
+use kl_model::{Gaps, Input, Kit, LinkFault, Linked};
 use kl_sym::resolve;
 use std::alloc::Global;
 
-/// A graph of text needs no area that the linker makes.
-const NOTHING_MADE: Made = Made {
-    stubs: 0,
-    tables: 0,
-    got: 0,
-    dynamic: 0,
-};
-
-/// Links a kernel: `order` has the numbers of the drawn inputs in the order in which they stand.
-///
-/// So far a kit is simple, as `kl_sym::is_simple` answers: its allocated sections are text, its names are GLOBAL, its fields
-/// have the types NONE, 64, PC32 and PLT32 (psABI, "Relocation Types") or are faults. And there are no gaps.
-/// With `Ok` the image and its placement carry the kit's link graph under that order.
+/// Links a kernel: `order` has the numbers of the drawn inputs in the order in which they stand, and `gaps` the sizes of the gaps, if
+/// there are some. With `Ok` the image and its placement carry the kit's link graph under that order and those gaps.
 ///
 /// # Errors
 ///
-/// The first fault that stands: `Doubled`, where a name has two GLOBAL definitions; `NoEntry`, where the kit's entry has no
-/// definition; the first field by input, relocation section and entry that has one of `Kind`, `Removed` and `Undefined`;
-/// `Span`, where the image would be longer than the limit; and the first field whose value is out of range, `Range`.
+/// The first fault that stands: `Doubled`, where a name has two GLOBAL definitions; `EdgeClash`, where a name that the kit gives to an
+/// edge has a GLOBAL definition or a common; `NoEntry`, where the kit's entry has no definition; the first field by input, relocation
+/// section and entry that has one of `Kind`, `Removed` and `Undefined`; `Span`, where the image would span more memory than the limit;
+/// and the first field whose value is out of range, `Range`.
 pub fn link_kernel(
     alloc: Global,
     kit: &Kit,
@@ -43,17 +35,18 @@ pub fn link_kernel(
     requires kit { IsKit kit.now }
     requires kernel { kit.now.kind ≡ Kernel }
     requires inputs { AreFit inputs.now }
-    requires simple { IsTrue (is_simple kit.now inputs.now) }
-    requires no_gaps { gaps ≡ None }
+    requires gaps { IfSome (option_copied gaps) AreGaps }
     requires order { IsOrder (drawn_count (map (λ x. x.place) inputs.now)) order.now }
-    ensures ok { IfOk result (λ l. Carries l.image.items l.placement kit.now inputs.now None order.now) }
+    ensures ok { IfOk result (λ l. Carries l.image.items l.placement kit.now inputs.now (option_copied gaps.entry) order.now) }
     ensures fields { IfOk result (λ l. l.fields ≡ length (graph kit.now inputs.now).fields) }
-    ensures sound { OnOk result (link_fault kit.now inputs.now None order.now ≡ None) }
-    ensures err { IfErr result (λ e. (e ≡ LinkFault.NoMemory) ⊎ (link_fault kit.now inputs.now None order.now ≡ Some e)) }
+    ensures sound { OnOk result (link_fault kit.now inputs.now (option_copied gaps.entry) order.now ≡ None) }
+    ensures err { IfErr result (λ e. (e ≡ LinkFault.NoMemory) ⊎ (link_fault kit.now inputs.now (option_copied gaps.entry) order.now ≡ Some e)) }
 {
     let graph = resolve(alloc, kit, inputs)?;
-    let placement = place(alloc, kit, &graph, gaps, order, &NOTHING_MADE)?;
-    let image = text_image(alloc, inputs, &graph, &placement)?;
+    let needs = needs(alloc, kit, &graph)?;
+    let slots = needs.slots.items();
+    let placement = place(alloc, kit, &graph, gaps, order, &made_areas(slots))?;
+    let image = kernel_image(alloc, kit, inputs, gaps, &graph, &placement, slots)?;
     let fields = graph.fields.items().len() as u32;
     Ok(Linked {
         image,

@@ -1,6 +1,7 @@
 //! The text of a kit: which lines it has, what each of them says, and the first fault.
 #![tactic(auto)]
 
+mod display;
 mod fault;
 mod form;
 mod key;

@@ -1,11 +1,10 @@
 // The fault of a link, by the names of files, sections and symbols.
-use crate::form::{name_of_section, text_at};
 use crate::relocation::TypeName;
 use crate::shown::{SectionName, Shown};
-use crate::source::{KitText, Source};
+use crate::source::{KitText, Source, name_of_section, text_at};
 use kl_base::NoMemory;
 use kl_elf::abi::STT_SECTION;
-use kl_model::{FieldAt, LinkFault, RawField, ValueRange, relocation_type};
+use kl_model::{FieldAt, Kit, LinkFault, RawField, ValueRange, relocation_type};
 use std::fmt::Write;
 
 /// The numbers of the inputs that a fault names.
@@ -46,30 +45,72 @@ pub fn tell_fault(
             write!(text, " and by ")?;
             tell_symbol(text, sources, *second)?;
         }
+        LinkFault::NoEntry { .. } | LinkFault::EdgeClash { .. } | LinkFault::Span { .. } => {
+            return tell_kit_fault(text, kit, fault);
+        }
+        LinkFault::NoMemory => write!(text, "out of memory")?,
+        _ => return tell_field_fault(text, sources, fault),
+    }
+    Ok(())
+}
+
+/// Tells a fault of the kit as a whole, behind the name of its text.
+fn tell_kit_fault(text: &mut String, kit: &KitText, fault: &LinkFault) -> Result<(), NoMemory> {
+    let file = Shown(kit.name.bytes());
+    write!(text, "{file}: ")?;
+    match fault {
         LinkFault::NoEntry { name } => {
-            let (file, name) = (Shown(kit.name.bytes()), Shown(name.items()));
+            let name = Shown(name.items());
             write!(
                 text,
-                "{file}: no object of the kit defines the entry '{name}' as a GLOBAL symbol"
+                "no object of the kit defines the entry '{name}' as a GLOBAL or WEAK symbol"
             )?;
         }
-        LinkFault::EdgeClash { name } => {
-            let (file, name) = (Shown(kit.name.bytes()), Shown(name.items()));
-            write!(
-                text,
-                "{file}: '{name}' is the symbol of an edge line, and an object defines it too"
-            )?;
-        }
+        LinkFault::EdgeClash { name } => tell_clash(text, kit, name.items())?,
         LinkFault::Span { found, limit } => {
             write!(
                 text,
                 "the image would span {found} bytes of memory, and at most {limit} are linked"
             )?;
         }
-        LinkFault::NoMemory => write!(text, "out of memory")?,
-        _ => return tell_field_fault(text, sources, fault),
+        _ => write!(text, "{fault}")?,
     }
     Ok(())
+}
+
+/// Tells the symbol of an edge that an object defines too, and its line.
+fn tell_clash(text: &mut String, kit: &KitText, name: &[u8]) -> Result<(), NoMemory> {
+    let shown = Shown(name);
+    let line = match &kit.kit {
+        Some(kit) => line_of_edge(kit, name),
+        None => None,
+    };
+    if let Some(line) = line {
+        write!(text, "line {line}: ")?;
+    }
+    write!(
+        text,
+        "'{shown}' is the symbol of an edge, and an object of the kit defines it too"
+    )?;
+    Ok(())
+}
+
+/// The line that gives a symbol to an edge.
+fn line_of_edge(kit: &Kit, name: &[u8]) -> Option<u32> {
+    let edge = kit
+        .edges
+        .items()
+        .iter()
+        .find(|edge| edge.symbol.items() == name);
+    if let Some(edge) = edge {
+        return Some(edge.line);
+    }
+    let run = kit
+        .runs
+        .items()
+        .iter()
+        .find(|run| run.start.items() == name || run.end.items() == name)?;
+    Some(run.line)
 }
 
 /// Tells the fault of a field.

@@ -1,14 +1,20 @@
 // The files of a kit, which are read once more for a message.
 ghost use Rattle.kl_store.specs.Calls.{Stays};
 
-use kl_base::{INPUT_LIMIT, KIT_TEXT_LIMIT, NAME_LIMIT, Name};
-use kl_first::{first_kit, kit_of};
-use kl_model::{Kit, Object};
+use kl_base::{INPUT_LIMIT, KIT_TEXT_LIMIT, NAME_LIMIT, Name, NoMemory, Range};
+use kl_kit::read_kit;
+use kl_model::{Kit, KitInput, Object, Part, Section};
 use kl_rel::read_object;
 use kl_store::{Store, read_whole};
 use std::alloc::Global;
 
-/// The text of a kit, and what it says where it has the form that is read.
+/// The bytes with which an archive of `ar` begins.
+const ARCHIVE: &[u8; 8] = b"!<arch>\n";
+
+/// The bytes with which a thin archive begins.
+const THIN_ARCHIVE: &[u8; 8] = b"!<thin>\n";
+
+/// The text of a kit, and what it says where it has no fault.
 #[derive(Drop)]
 pub struct KitText {
     /// The name of its file.
@@ -20,7 +26,7 @@ pub struct KitText {
 /// An input of a kit.
 #[derive(Drop)]
 pub struct Source {
-    /// Its number.
+    /// Its number, in kit order.
     pub input: u32,
     /// The name of its file.
     pub name: Name,
@@ -29,8 +35,37 @@ pub struct Source {
     pub object: Option<Object>,
 }
 
+/// An archive in an input's place.
+#[derive(Clone, Copy)]
+pub struct Archive {
+    /// The name of its file.
+    pub name: Name,
+    /// Whether it names its members alone.
+    pub thin: bool,
+}
+
+/// The bytes of a range, as far as the file has them.
+pub fn text_at(bytes: &[u8], range: Range) -> &[u8] {
+    let start = bytes.len().min(range.at as usize);
+    let rest = &bytes[start..];
+    &rest[..rest.len().min(range.len as usize)]
+}
+
+/// The name of a section of an object, by its number.
+pub fn name_of_section<'a>(bytes: &'a [u8], object: &Object, number: u32) -> &'a [u8] {
+    match section_of(object, number) {
+        Some(section) => text_at(bytes, section.name),
+        None => b"",
+    }
+}
+
+/// A section of an object, by its number.
+fn section_of(object: &Object, number: u32) -> Option<&Section> {
+    object.sections.items().get(number.checked_sub(1)? as usize)
+}
+
 /// The name of a file in a folder.
-pub fn file_in(dir: &Name, file: &[u8]) -> Option<Name> {
+fn file_in(dir: &Name, file: &[u8]) -> Option<Name> {
     let Ok(name) = Name::at_root(file) else {
         return None;
     };
@@ -54,24 +89,49 @@ pub fn read_kit_text<S: Store>(alloc: Global, dir: &Name, store: &mut S) -> Opti
 
 /// The kit that a text says.
 fn kit_in(alloc: Global, text: &[u8]) -> Option<Kit> {
-    let first = first_kit(text)?;
-    match kit_of(alloc, &first) {
+    if text.len() as u64 > KIT_TEXT_LIMIT {
+        return None;
+    }
+    match read_kit(alloc, text) {
         Ok(kit) => Some(kit),
         Err(_) => None,
     }
 }
 
-/// An input of a kit, where it can be read.
+/// The input lines of a kit in kit order: those of the head, the drawn ones, those of the tail.
+pub fn kit_order(alloc: Global, kit: &Kit) -> Result<Vec<&KitInput>, NoMemory> {
+    let lines = kit.inputs.items();
+    let mut ordered = Vec::new(alloc);
+    add_part(&mut ordered, lines, Part::Head)?;
+    add_part(&mut ordered, lines, Part::Drawn)?;
+    add_part(&mut ordered, lines, Part::Tail)?;
+    Ok(ordered)
+}
+
+/// Adds the lines of a part.
+fn add_part<'a>(
+    ordered: &mut Vec<&'a KitInput>,
+    lines: &'a [KitInput],
+    part: Part,
+) -> Result<(), NoMemory> {
+    for line in lines {
+        if line.place == part {
+            ordered.push(line)?;
+        }
+    }
+    Ok(())
+}
+
+/// The input of a line, where it can be read.
 pub fn read_source<S: Store>(
     alloc: Global,
     dir: &Name,
-    kit: &Kit,
+    line: &KitInput,
     input: u32,
     store: &mut S,
 ) -> Option<Source>
     ensures still { Stays (S.meaning store.old) (S.meaning store.new) }
 {
-    let line = kit.inputs.items().get(input as usize)?;
     let name = file_in(dir, line.file.items())?;
     let Ok(bytes) = read_whole(alloc, store, &name, INPUT_LIMIT) else {
         return None;
@@ -93,5 +153,35 @@ fn object_in(alloc: Global, bytes: &[u8]) -> Option<Object> {
     match read_object(alloc, bytes) {
         Ok(object) => Some(object),
         Err(_) => None,
+    }
+}
+
+/// The first of the lines whose input is an archive.
+pub fn find_archive<S: Store>(dir: &Name, lines: &[&KitInput], store: &mut S) -> Option<Archive>
+    ensures still { Stays (S.meaning store.old) (S.meaning store.new) }
+{
+    for line in lines {
+        let archive = archive_of(dir, line, store);
+        if archive.is_some() {
+            return archive;
+        }
+    }
+    None
+}
+
+/// The archive of a line, where its input is one.
+fn archive_of<S: Store>(dir: &Name, line: &KitInput, store: &mut S) -> Option<Archive>
+    ensures still { Stays (S.meaning store.old) (S.meaning store.new) }
+{
+    let name = file_in(dir, line.file.items())?;
+    let mut head = [0; ARCHIVE.len()];
+    let Ok(_) = store.read(&name, 0, &mut head) else {
+        return None;
+    };
+    let thin = head == *THIN_ARCHIVE;
+    if thin || head == *ARCHIVE {
+        Some(Archive { name, thin })
+    } else {
+        None
     }
 }

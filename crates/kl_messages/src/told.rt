@@ -1,17 +1,18 @@
 // The message of a cause.
 ghost use Rattle.kl_store.specs.Calls.{Stays};
 
-use crate::form::tell_form;
 use crate::kit_text::tell_kit_text;
 use crate::link::{inputs_of, tell_fault};
 use crate::object::tell_flaw;
 use crate::shown::Shown;
-use crate::source::{KitText, Source, read_kit_text, read_source};
+use crate::source::{
+    Archive, KitText, Source, find_archive, kit_order, read_kit_text, read_source,
+};
 use crate::usage::{is_of_system, tell_words};
 use kl_base::{INPUT_LIMIT, KIT_TEXT_LIMIT, Name, NoMemory};
 use kl_cli::Command;
 use kl_jobs::{Cause, KitCause, ObjectCause};
-use kl_model::Kit;
+use kl_model::{KitInput, KitKind};
 use kl_rel::ReadFault;
 use kl_store::Store;
 use std::alloc::Global;
@@ -35,6 +36,8 @@ pub struct Ended<'a> {
 struct Again {
     text: KitText,
     sources: Vec<Source>,
+    /// The archive in an input's place, where that is the cause.
+    archive: Option<Archive>,
 }
 
 /// The lines that are told of a command, each with `relink: ` before it: none where all was done. Files are read again, and no name
@@ -58,21 +61,14 @@ pub fn message<S: Store>(
     Ok(text)
 }
 
-/// The numbers of the inputs that a cause speaks of.
-fn inputs_of_cause(cause: &Cause) -> [Option<u32>; 2] {
-    match cause {
-        Cause::Object { input, .. } => [Some(*input), None],
-        Cause::Link(fault) => inputs_of(fault),
-        Cause::NotYet => [Some(0), None],
-        _ => [None, None],
-    }
-}
-
 /// Whether a cause speaks of what stands in a kit.
 fn is_of_kit(cause: &Cause) -> bool {
     matches!(
         cause,
-        Cause::Object { .. } | Cause::Link(_) | Cause::NotYet | Cause::Kit(KitCause::Total { .. })
+        Cause::Object { .. }
+            | Cause::Link(_)
+            | Cause::NotYet
+            | Cause::Kit(KitCause::Text(_) | KitCause::Total { .. })
     )
 }
 
@@ -90,45 +86,83 @@ fn read_again<S: Store>(
     let Some(text) = read_kit_text(alloc, &dir, store) else {
         return Ok(None);
     };
-    let sources = match &text.kit {
-        Some(kit) => read_sources(alloc, &dir, kit, ended.cause, store)?,
-        None => Vec::new(alloc),
-    };
-    Ok(Some(Again { text, sources }))
+    let mut sources = Vec::new(alloc);
+    let mut archive = None;
+    if let Some(kit) = &text.kit {
+        let lines = kit_order(alloc, kit)?;
+        sources = read_sources(alloc, &dir, &lines, ended.cause, store)?;
+        if *ended.cause == Cause::NotYet {
+            archive = find_archive(&dir, &lines, store);
+        }
+    }
+    Ok(Some(Again {
+        text,
+        sources,
+        archive,
+    }))
 }
 
-/// Reads the inputs again that a cause speaks of, as far as they can be read.
+/// Reads the inputs again that a cause speaks of, as far as they can be read. Its numbers are those of the lines in kit order.
 fn read_sources<S: Store>(
     alloc: Global,
     dir: &Name,
-    kit: &Kit,
+    lines: &[&KitInput],
     cause: &Cause,
     store: &mut S,
 ) -> Result<Vec<Source>, NoMemory>
     ensures still { Stays (S.meaning store.old) (S.meaning store.new) }
 {
-    let [first, second] = inputs_of_cause(cause);
     let mut sources = Vec::new(alloc);
-    add_source(alloc, dir, kit, first, store, &mut sources)?;
-    add_source(alloc, dir, kit, second, store, &mut sources)?;
+    match cause {
+        Cause::Object { input, line, .. } => {
+            let found = lines.iter().find(|given| given.line == *line);
+            add_source(alloc, dir, found, *input, store, &mut sources)?;
+        }
+        Cause::Link(fault) => {
+            let [first, second] = inputs_of(fault);
+            add_input(alloc, dir, lines, first, store, &mut sources)?;
+            add_input(alloc, dir, lines, second, store, &mut sources)?;
+        }
+        _ => {}
+    }
     Ok(sources)
 }
 
-/// Adds an input, where there is one and it can be read.
-fn add_source<S: Store>(
+/// Adds the input of a number, where there is one and it can be read.
+fn add_input<S: Store>(
     alloc: Global,
     dir: &Name,
-    kit: &Kit,
+    lines: &[&KitInput],
     input: Option<u32>,
     store: &mut S,
     sources: &mut Vec<Source>,
 ) -> Result<(), NoMemory>
     ensures still { Stays (S.meaning store.old) (S.meaning store.new) }
 {
-    let Some(input) = input else {
+    match input {
+        Some(input) => {
+            let line = lines.get(input as usize);
+            add_source(alloc, dir, line, input, store, sources)
+        }
+        None => Ok(()),
+    }
+}
+
+/// Adds the input of a line, where there is one and it can be read.
+fn add_source<S: Store>(
+    alloc: Global,
+    dir: &Name,
+    line: Option<&&KitInput>,
+    input: u32,
+    store: &mut S,
+    sources: &mut Vec<Source>,
+) -> Result<(), NoMemory>
+    ensures still { Stays (S.meaning store.old) (S.meaning store.new) }
+{
+    let Some(line) = line else {
         return Ok(());
     };
-    if let Some(source) = read_source(alloc, dir, kit, input, store) {
+    if let Some(source) = read_source(alloc, dir, line, input, store) {
         sources.push(source)?;
     }
     Ok(())
@@ -192,6 +226,14 @@ fn without_number(failure: &str) -> &str {
 /// Tells why a kit isn't read.
 fn tell_kit(text: &mut String, cause: &KitCause, again: Option<&Again>) -> Result<(), NoMemory> {
     match cause {
+        KitCause::Text(fault) => match again {
+            Some(again) => {
+                let name = Shown(again.text.name.bytes());
+                write!(text, "{name}: ")?;
+                tell_kit_text(text, &again.text.text, fault)?;
+            }
+            None => write!(text, "{fault}")?,
+        },
         KitCause::Absent(name) => {
             let name = Shown(name.bytes());
             write!(text, "{name}: no such file")?;
@@ -239,21 +281,26 @@ fn tell_object(
 
 /// Tells what a kit has that isn't linked yet.
 fn tell_not_yet(text: &mut String, again: &Again) -> Result<(), NoMemory> {
-    for source in &again.sources {
-        let name = Shown(source.name.bytes());
-        let mut part = String::new(*text.allocator());
-        if tell_form(&mut part, source)? {
-            write!(text, "{name}: {part}")?;
-            return Ok(());
-        }
+    if let Some(archive) = &again.archive {
+        let name = Shown(archive.name.bytes());
+        let what = if archive.thin {
+            "a thin archive isn't linked yet: name one of its objects"
+        } else {
+            "an archive isn't linked yet: 'ar x' takes its objects out"
+        };
+        write!(text, "{name}: {what}")?;
+        return Ok(());
     }
     let name = Shown(again.text.name.bytes());
     write!(text, "{name}: ")?;
-    if again.text.kit.is_some() {
-        write!(text, "the kit is of a form that isn't linked yet")?;
-        return Ok(());
+    match &again.text.kit {
+        Some(kit) if kit.kind == KitKind::Library => write!(
+            text,
+            "libraries aren't linked yet, and this is a library's kit ('kind library')"
+        )?,
+        _ => write!(text, "the kit is of a form that isn't linked yet")?,
     }
-    tell_kit_text(text, &again.text.text)
+    Ok(())
 }
 
 /// Tells the folder below which names are taken, where a name may have been meant for another one.

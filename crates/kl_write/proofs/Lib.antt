@@ -20,3 +20,5 @@ pub mod LowBytes
 pub mod Spans
 pub mod Filled
 pub mod HeadBytes
+pub mod FileEnds
+pub mod KernelValues

@@ -1,6 +1,7 @@
 -- The parts of a kernel that is laid out stand in the span.
 use Rattle.std.proofs.Common.{get_or, ℕ, ◌≡◌, ◌+◌, ◌-◌, ◌*◌, ◌^◌, ◌<◌, ◌≤◌, List, length, map, refl, ap, sym, subst, arith, inl, inr, length-append}
-use Rattle.std.specs.Prelude.{All, Some, None, Option, IfSome}
+use Rattle.std.specs.Prelude.{All, Some, None, Option, IfSome, is_some, true, false}
+use Rattle.std.specs.Option.{option_map_or}
 use Rattle.std.proofs.lemmas.Bool.{cases_lt}
 use Rattle.std.proofs.lemmas.List.{length-map}
 use Rattle.kl_base.specs.declared.class.Class.{Class}
@@ -12,7 +13,9 @@ use Rattle.kl_model.specs.Laid.{AreasStand, area_at, class_end, place_of, reach,
 use Rattle.kl_model.specs.Line.{Spread, area_spread, class_line, gap_size, last_spreads, made_spread, piece_part, run_spreads, spreads}
 use Rattle.kl_model.specs.Lists.{up}
 use Rattle.kl_model.specs.Sizes.{made_of, page_of, text_from}
-use Rattle.kl_model.specs.Slots.{slots}
+use Rattle.kl_model.specs.Relocations.{relocation_type}
+use Rattle.kl_model.specs.Slots.{is_name, slots}
+use Rattle.kl_model.specs.declared.relocation.RelocationType.{RelocationType}
 use Rattle.kl_model.specs.declared.graph.Graph.{Graph}
 use Rattle.kl_model.specs.declared.kit.Kit.{Kit}
 use Rattle.kl_model.specs.declared.object.Input.{Input}
@@ -38,10 +41,16 @@ use Rattle.kl_write.proofs.Stands.{gap_in}
 use Rattle.kl_write.proofs.WholeOrder.{whole_order}
 use Rattle.kl_write.specs.InSpan.{AreFieldsInside, AreGapsInSpan, ArePiecesInSpan, AreShort, IsAreaInSpan}
 use Rattle.kl_write.specs.Targets.{IsPlacedTarget}
+use Rattle.kl_write.specs.Values.{IsPlacedField}
 use Rattle.kl_model.specs.Sound.{IsSoundField, IsSoundTarget}
 use Rattle.kl_model.specs.declared.graph.Target.{Target}
 use Rattle.kl_model.specs.declared.graph.Target.TheVariants.{Place, Abs, Edge, Name, Zero, Gone}
 use Rattle.kl_write.specs.LaidKernel.{HasAreaAddresses, IsLaidKernel}
+
+-- a type whose field has a width is linked
+wide_kind : (o : Option RelocationType) → 0 < option_map_or (λ row. row.width) o 0 → is_some o ≡ true
+wide_kind None h = absurd (omega (arith, h))
+wide_kind (Some row) h = refl
 
 module _ (kit : Kit) (inputs : List Input) (g : Graph) (gaps : Option Gaps) (order : List ℕ) (p : Placement) (l : IsLaidKernel kit g gaps order p) (numbers : HasAreaAddresses p) where
   abbrev made : Made
@@ -194,3 +203,24 @@ module _ (kit : Kit) (inputs : List Input) (g : Graph) (gaps : Option Gaps) (ord
     piece = (l.sound.fields k d h).piece;
     inside = inside kit inputs g gaps order p l.kernel l.laid l.small l.base l.sound whole numbers k d h;
   }
+
+  -- each field and its target have a place
+  plain_target : (t : Target) → IsSoundTarget kit g t → is_name t ≡ false
+  plain_target (Place n k) h = refl
+  plain_target (Abs n) h = refl
+  plain_target (Edge n e) h = refl
+  plain_target (Name n) h = let none = ap length (l.sound.kernel l.kernel) in absurd (omega (arith, h, none))
+  plain_target Zero h = refl
+  plain_target Gone h = refl
+
+  pub fields_placed : All (IsPlacedField g p) g.fields
+  fields_placed k d h =
+      let f = l.sound.fields k d h in
+      let piece = f.piece in
+      record {
+        piece = omega (arith, placed_count, piece);
+        kind = wide_kind (relocation_type (get_or g.fields k d).kind) f.wide;
+        target = placed_target (get_or g.fields k d).target f.target;
+        plain = plain_target (get_or g.fields k d).target f.target;
+        got = known 13 (omega arith);
+      }

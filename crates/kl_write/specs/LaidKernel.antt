@@ -7,7 +7,7 @@ use Rattle.kl_model.specs.Image.{image_bytes}
 use Rattle.kl_model.specs.Laid.{Laid, span}
 use Rattle.kl_model.specs.Orders.{IsOrder, drawn_count}
 use Rattle.kl_model.specs.Sizes.{made_of}
-use Rattle.kl_model.specs.Sound.{IsSoundGraph}
+use Rattle.kl_model.specs.Sound.{HasSource, IsSoundGraph}
 use Rattle.kl_model.specs.Written.{ehdr_bytes, phdr_bytes}
 use Rattle.kl_model.specs.declared.graph.Graph.{Graph}
 use Rattle.kl_model.specs.declared.kit.Kit.{Kit}
@@ -29,6 +29,10 @@ pub record IsLaidKernel (kit : Kit) (g : Graph) (gaps : Option Gaps) (order : Li
 -- the areas of a placement start and end at numbers of 64 bits
 abbrev pub HasAreaAddresses : Placement → Type 0
 HasAreaAddresses p = All (λ x. (x.start < 2 ^ 64) × (x.end < 2 ^ 64)) p.areas
+
+-- the bytes of each piece that has some stand in the file of its input
+abbrev pub HaveSources : List Input → Graph → Type 0
+HaveSources inputs g = All (λ x. 0 < x.bytes.len → HasSource inputs x.bytes x.id) g.pieces
 
 -- the bytes of a kernel's headers
 abbrev pub kernel_headers : Placement → Graph → List ℕ

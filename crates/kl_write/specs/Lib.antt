@@ -3,3 +3,4 @@ pub mod Windows
 pub mod Writes
 pub mod InSpan
 pub mod Targets
+pub mod Values

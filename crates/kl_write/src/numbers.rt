@@ -15,7 +15,7 @@ use kl_model::area::GOT;
 use kl_model::{Graph, Placement, width};
 
 /// The size of a slot, in bytes.
-const SLOT_SIZE: usize = 8;
+pub const SLOT_SIZE: usize = 8;
 
 /// The width of the field of a relocation type, in bytes.
 fn width_of(kind: u8) -> usize

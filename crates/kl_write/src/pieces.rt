@@ -1,8 +1,9 @@
 // The bytes of pieces.
 ghost use Rattle.std.specs.Prelude.{ℕ, ◌≡◌, ◌+◌, ◌<◌, ◌^◌, length, slice_index};
 ghost use Rattle.kl_model.specs.Carries.{piece_at, source};
-ghost use Rattle.kl_model.specs.Sound.{AreSourced, HasSource};
+ghost use Rattle.kl_model.specs.Sound.{HasSource};
 ghost use Rattle.kl_write.specs.InSpan.{ArePiecesInSpan, AreShort};
+ghost use Rattle.kl_write.specs.LaidKernel.{HaveSources};
 ghost use Rattle.kl_write.specs.Windows.{Shows};
 ghost use Rattle.kl_write.specs.Writes.{piece_write, piece_writes};
 
@@ -11,12 +12,15 @@ use crate::window::put_padded;
 use kl_base::Class;
 use kl_model::{Graph, Input, Piece, PieceId, Placement};
 
-/// The bytes of a piece in the file of its input.
+/// The bytes of a piece in the file of its input, if it has some.
 fn bytes_of<'a>(inputs: &'a [Input], piece: &Piece) -> &'a [u8]
-    requires source { HasSource inputs.now piece.now.bytes piece.now.id }
+    requires source { 0 < piece.now.bytes.len → HasSource inputs.now piece.now.bytes piece.now.id }
     ensures long { length result.now ≡ piece.now.bytes.len }
     ensures bytes { (k : ℕ) → k < piece.now.bytes.len → slice_index result.now k ≡ slice_index (source inputs.now piece.now.id) (piece.now.bytes.at + k) }
 {
+    if piece.bytes.len == 0 {
+        return &[];
+    }
     match piece.id {
         PieceId::Section { input, .. } => inputs[input as usize].text(piece.bytes),
         PieceId::Common(_) | PieceId::Gap(_) => &[],
@@ -33,7 +37,7 @@ fn write_piece(
     number: usize,
 )
     requires number { number < length graph.now.pieces }
-    requires sources { AreSourced inputs.now graph.now }
+    requires sources { HaveSources inputs.now graph.now }
     requires short { AreShort graph.now }
     requires span { ArePiecesInSpan graph.now placement.now }
     requires window { at + length out.old < 2 ^ 63 }
@@ -55,7 +59,7 @@ pub fn write_pieces(
     graph: &Graph,
     placement: &Placement,
 )
-    requires sources { AreSourced inputs.now graph.now }
+    requires sources { HaveSources inputs.now graph.now }
     requires short { AreShort graph.now }
     requires span { ArePiecesInSpan graph.now placement.now }
     requires window { at + length out.old < 2 ^ 63 }

@@ -3,8 +3,7 @@ ghost use Rattle.std.specs.Prelude.{ℕ, List, ◌≡◌, ◌+◌, ◌<◌, ◌^
 ghost use Rattle.kl_model.specs.Image.{image_byte};
 ghost use Rattle.kl_model.specs.Leads.{address_of, filed_value};
 ghost use Rattle.kl_model.specs.Slots.{slots};
-ghost use Rattle.kl_model.specs.Sound.{AreSourced};
-ghost use Rattle.kl_write.specs.LaidKernel.{HasAreaAddresses, IsLaidKernel, kernel_headers};
+ghost use Rattle.kl_write.specs.LaidKernel.{HasAreaAddresses, HaveSources, IsLaidKernel, kernel_headers};
 
 use crate::numbers::{write_fields, write_slots};
 use crate::padding::{pad, pad_gaps};
@@ -36,7 +35,7 @@ pub struct Plan<'a> {
 pub fn fill(out: &mut [u8], at: u64, inputs: &[Input], plan: &Plan)
     requires laid { (order : List ℕ) × IsLaidKernel plan.now.kit.now plan.now.graph.now plan.now.gaps order plan.now.placement.now }
     requires addresses { HasAreaAddresses plan.now.placement.now }
-    requires sources { AreSourced inputs.now plan.now.graph.now }
+    requires sources { HaveSources inputs.now plan.now.graph.now }
     requires head { plan.now.head.items ≡ kernel_headers plan.now.placement.now plan.now.graph.now }
     requires slots { plan.now.slots.items ≡ map (address_of plan.now.placement.now plan.now.graph.now) (slots plan.now.graph.now) }
     requires values { plan.now.values.items ≡ map (filed_value plan.now.kit.now plan.now.placement.now plan.now.graph.now) plan.now.graph.now.fields }

@@ -171,6 +171,14 @@ fn tells_kits(rt: HostRuntime) -> Result<(), Fail> {
             "/kit/k.o: it has more than 67108864 bytes\n",
         ),
         (
+            total(TotalOf::Inputs),
+            "/kit/link.conf: line 4: with this input the kit has more than 16384 inputs\n",
+        ),
+        (
+            total(TotalOf::Bytes),
+            "/kit/link.conf: line 4: with this input the kit has more than 268435456 bytes of inputs\n",
+        ),
+        (
             total(TotalOf::Sections),
             "/kit/link.conf: line 4: with this input the kit has more than 1048576 sections\n",
         ),
@@ -490,14 +498,7 @@ fn tells_names_that_do_not_link(rt: HostRuntime) -> Result<(), Fail> {
     };
     assert_eq!(rt;
         told_fault(alloc, fault)?.as_str(),
-        "relink: /kit/link.conf: no object of the kit defines the entry 'a\\x1bb\\x5c' as a GLOBAL symbol\n"
-    );
-    let fault = LinkFault::EdgeClash {
-        name: named(alloc, b"etext")?,
-    };
-    assert_eq!(rt;
-        told_fault(alloc, fault)?.as_str(),
-        "relink: /kit/link.conf: 'etext' is the symbol of an edge line, and an object defines it too\n"
+        "relink: /kit/link.conf: no object of the kit defines the entry 'a\\x1bb\\x5c' as a GLOBAL or WEAK symbol\n"
     );
     Ok(())
 }
@@ -539,7 +540,7 @@ fn tells_fields_that_do_not_link(rt: HostRuntime) -> Result<(), Fail> {
                 found: 536_870_913,
                 limit: 536_870_912,
             },
-            "relink: the image would span 536870913 bytes of memory, and at most 536870912 are linked\n",
+            "relink: /kit/link.conf: the image would span 536870913 bytes of memory, and at most 536870912 are linked\n",
         ),
         (LinkFault::NoMemory, "relink: out of memory\n"),
     ];

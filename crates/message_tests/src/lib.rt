@@ -4,6 +4,8 @@
 #[cfg(test)]
 mod causes;
 #[cfg(test)]
-mod forms;
+mod kit_texts;
 #[cfg(test)]
 mod kits;
+#[cfg(test)]
+mod several;

@@ -2,6 +2,7 @@ use kl_base::{Listed, Name};
 use kl_cli::{Exit, run};
 use kl_elf::HeadFault;
 use kl_jobs::{Cause, KitCause, ObjectCause};
+use kl_kit::{KitFault, Needed};
 use kl_mem::{ListEntropy, MemStore, VecSink};
 use kl_model::LinkFault;
 use kl_rel::{Feature, ReadFault, ReadKind};
@@ -19,6 +20,20 @@ const OBJECT: &[u8] = b"\
     0800000000000000180000000000000009000000030000000000000000000000000000000000000078000000000000000700000000000000\
     0000000000000000010000000000000000000000000000001100000003000000000000000000000000000000000000007f00000000000000\
     2100000000000000000000000000000001000000000000000000000000000000";
+
+/// Another one, of `call start` alone, aligned to 16.
+const CALL: &[u8] = b"\
+    7f454c4602010100000000000000000001003e000100000000000000000000000000000000000000c0000000000000000000000040000000\
+    0000400006000500e80000000000000000000000000000000000000000000000000000000000000001000000100000000000000000000000\
+    0000000000000000007374617274000001000000000000000400000001000000fcffffffffffffff002e73796d746162002e737472746162\
+    002e7368737472746162002e72656c612e746578740000000000000000000000000000000000000000000000000000000000000000000000\
+    0000000000000000000000000000000000000000000000000000000000000000200000000100000006000000000000000000000000000000\
+    400000000000000005000000000000000000000000000000100000000000000000000000000000001b000000040000004000000000000000\
+    0000000000000000800000000000000018000000000000000300000001000000080000000000000018000000000000000100000002000000\
+    0000000000000000000000000000000048000000000000003000000000000000040000000100000008000000000000001800000000000000\
+    0900000003000000000000000000000000000000000000007800000000000000070000000000000000000000000000000100000000000000\
+    0000000000000000110000000300000000000000000000000000000000000000980000000000000026000000000000000000000000000000\
+    01000000000000000000000000000000";
 
 const KIT: &[u8] = b"kind kernel\noutput /bsd\nentry start\nhead k.o\n";
 
@@ -132,30 +147,73 @@ fn tells_usage(rt: HostRuntime) -> Result<(), Fail> {
 }
 
 #[test]
-fn refuses_other_forms(rt: HostRuntime) -> Result<(), Fail> {
+fn links_in_kit_order(rt: HostRuntime) -> Result<(), Fail> {
+    let alloc = rt.alloc();
+    let text = b"# two objects\nkind kernel\n\noutput /bsd\nentry\tstart\n  tail sub/l.o\nhead k.o";
+    let mut store = kit_store(alloc, text, &object(alloc)?)?;
+    store.put(&named(b"/kit/sub/l.o")?, &hex::decode(alloc, CALL)?)?;
+    let (exit, _) = answer(alloc, &[b"link", b"/kit"], &mut store)?;
+    assert_eq!(rt; (exit.status, exit.cause), (0, Cause::Done));
+    let image = store.get(&named(b"/kit/linked.relink")?).ok_or("an image")?;
+    assert_eq!(rt; image.len(), 4117);
+    assert_eq!(rt;
+        &image[4096..],
+        b"\xf4\xeb\xfd\xcc\xcc\xcc\xcc\xcc\xcc\xcc\xcc\xcc\xcc\xcc\xcc\xcc\xe8\xeb\xff\xff\xff".as_slice()
+    );
+    Ok(())
+}
+
+#[test]
+fn tells_faults_of_a_kit_text(rt: HostRuntime) -> Result<(), Fail> {
     let alloc = rt.alloc();
     let good = object(alloc)?;
-    let texts: [&[u8]; 6] = [
-        b"",
-        b"kind kernel\noutput /bsd\nentry start\nhead k.o",
-        b"kind kernel\noutput /bsd\nentry start\nhead k.o\nhead l.o\n",
-        b"kind kernel\noutput /bsd\nentry  start\nhead k.o\n",
-        b"kind kernel\noutput /bsd\nentry start\nhead ../k.o\n",
-        b"kind library\noutput /bsd\nentry start\nhead k.o\n",
+    let rows: [(&[u8], KitFault); 9] = [
+        (b"", KitFault::Missing { what: Needed::Kind }),
+        (b"kind kernel\r\n", KitFault::Byte { line: 1 }),
+        (b"kind kernel\nobjct k.o\n", KitFault::Keyword { line: 2 }),
+        (b"output /bsd\n", KitFault::Misplaced { line: 1 }),
+        (b"kind kernel\nhead\n", KitFault::Count { line: 2 }),
+        (b"kind kernel\nhead ../k.o\n", KitFault::Value { line: 2 }),
+        (
+            b"kind library\noutput /bsd\n",
+            KitFault::Reserved { line: 2 },
+        ),
+        (
+            b"kind kernel\nhead k.o\nhead k.o\n",
+            KitFault::Twice { line: 3 },
+        ),
+        (
+            b"kind kernel\noutput /bsd\nhead k.o\n",
+            KitFault::Missing {
+                what: Needed::Entry,
+            },
+        ),
     ];
-    for text in texts {
+    for (text, fault) in rows {
         let mut store = kit_store(alloc, text, &good)?;
         let (exit, _) = answer(alloc, &[b"link", b"/kit"], &mut store)?;
         assert_eq!(rt;
             (exit.status, exit.cause),
-            (19, Cause::NotYet),
-            "at {text:?}"
+            (12, Cause::Kit(KitCause::Text(fault)))
         );
     }
+    Ok(())
+}
+
+#[test]
+fn refuses_libraries_and_archives(rt: HostRuntime) -> Result<(), Fail> {
+    let alloc = rt.alloc();
+    let good = object(alloc)?;
+    let library = b"kind library\noutput /usr/lib/libk.so.1\nobject absent.o\n";
+    let mut store = kit_store(alloc, library, &good)?;
+    let (exit, _) = answer(alloc, &[b"link", b"/kit"], &mut store)?;
+    assert_eq!(rt; (exit.status, exit.cause), (19, Cause::NotYet));
     // an archive, and a thin one
     let archives: [&[u8]; 2] = [b"!<arch>\n", b"!<thin>\n"];
     for archive in archives {
-        let mut store = kit_store(alloc, KIT, archive)?;
+        let text = b"kind kernel\noutput /bsd\nentry start\nhead k.o\nobject l.a\n";
+        let mut store = kit_store(alloc, text, &good)?;
+        store.put(&named(b"/kit/l.a")?, archive)?;
         let (exit, _) = answer(alloc, &[b"link", b"/kit"], &mut store)?;
         assert_eq!(rt; (exit.status, exit.cause), (19, Cause::NotYet));
     }
@@ -185,6 +243,30 @@ fn tells_flaws_of_an_object(rt: HostRuntime) -> Result<(), Fail> {
         assert_eq!(rt; (exit.status, exit.cause), (13, cause));
         assert_eq!(rt; store.get(&named(b"/kit/linked.relink")?), None);
     }
+    Ok(())
+}
+
+#[test]
+fn tells_the_first_input_in_kit_order(rt: HostRuntime) -> Result<(), Fail> {
+    let alloc = rt.alloc();
+    let text = b"kind kernel\noutput /bsd\nentry start\ntail absent.o\nobject bad.o\nhead k.o\n";
+    let mut store = kit_store(alloc, text, &object(alloc)?)?;
+    store.put(&named(b"/kit/bad.o")?, b"no object")?;
+    let (exit, _) = answer(alloc, &[b"link", b"/kit"], &mut store)?;
+    let fault = ReadFault {
+        kind: ReadKind::Head(HeadFault::Truncated),
+        at: 9,
+    };
+    let cause = Cause::Object {
+        input: 1,
+        line: 5,
+        fault: ObjectCause::Elf(fault),
+    };
+    assert_eq!(rt; (exit.status, exit.cause), (13, cause));
+    store.put(&named(b"/kit/bad.o")?, &hex::decode(alloc, CALL)?)?;
+    let (exit, _) = answer(alloc, &[b"link", b"/kit"], &mut store)?;
+    let absent = KitCause::Absent(named(b"/kit/absent.o")?);
+    assert_eq!(rt; (exit.status, exit.cause), (12, Cause::Kit(absent)));
     Ok(())
 }
 

@@ -1,9 +1,10 @@
-use Rattle.std.proofs.Common.{◌∙◌, inl, inr, ap, arith}
+use Rattle.std.proofs.Common.{◌∙◌, ap, inl, inr}
 use Rattle.std.specs.Option.{option_copied}
 use Rattle.std.proofs.lemmas.Result.{err_from_is_err_and}
-use Rattle.kl_kernel.proofs.LinkFaults.{first_of_names}
-use Rattle.kl_kernel.proofs.LinkSteps.{graph_order, graph_writable, span_fault, stands, only, range_is, none_stands, carries_kit}
 use Rattle.kl_layout.specs.Spans.{as_link_fault}
+use Rattle.kl_write.proofs.KernelValues.{few_slots}
+use Rattle.kl_kernel.proofs.LinkFaults.{first_of_names}
+use Rattle.kl_kernel.proofs.LinkSteps.{addresses, carries_kit, graph_order, laid_kernel, made_small, none_stands, range_is, sources, span_is}
 use Rattle.kl_kernel.proofs.link.link_kernel.Goals as goal
 
 pub returns-in_err-graph-clause-err : goal.returns-in_err-graph-clause-err
@@ -11,18 +12,20 @@ returns-in_err-graph-clause-err c =
     let r = err_from_is_err_and c.from_residual.result c.from_residual.ensures.1 in
     rw (r.1, r.2) (elim c.in_err-graph.ensures.err [
       | inl a ↦ inl a
-      | inr e ↦ inr (first_of_names c.args.kit.now c.args.inputs.now c.args.order.now _ e)
+      | inr e ↦ inr (first_of_names c.args.kit.now c.args.inputs.now (option_copied c.args.gaps) c.args.order.now _ e)
     ])
 
-pub place-requires-clause-sound : goal.place-requires-clause-sound
-place-requires-clause-sound c = c.in_ok-graph.ensures.graph
-
-pub place-requires-clause-gaps : goal.place-requires-clause-gaps
-place-requires-clause-gaps c = rw c.requires.no_gaps tt
+pub made_areas-requires : goal.made_areas-requires
+made_areas-requires c = rw (c.items-slots.ensures, c.in_ok-needs.ensures.slots) (few_slots c.args.kit.now c.in_ok-graph.graph c.in_ok-graph.ensures.graph)
 
 pub place-requires-clause-order : goal.place-requires-clause-order
-place-requires-clause-order c =
-    let q = c.requires in graph_order c.args.kit.now c.args.inputs.now c.args.order.now (q.kit.kernel q.kernel) q.inputs q.simple q.order c.in_ok-graph.graph c.in_ok-graph.ensures.ok
+place-requires-clause-order c = let q = c.requires in graph_order c.args.kit.now c.args.inputs.now (option_copied c.args.gaps) c.args.order.now q.kit q.kernel q.inputs q.order c.in_ok-graph.graph c.in_ok-graph.ensures.ok c.in_ok-graph.ensures.graph
+
+pub place-requires-clause-made : goal.place-requires-clause-made
+place-requires-clause-made c =
+    let q = c.requires in
+    made_small c.args.kit.now c.args.inputs.now (option_copied c.args.gaps) c.args.order.now q.kit q.kernel q.inputs q.order c.in_ok-graph.graph c.in_ok-graph.ensures.ok c.in_ok-graph.ensures.graph
+    c.made_areas.result (c.made_areas.ensures c.args.kit.now c.in_ok-graph.graph q.kernel (c.items-slots.ensures ∙ c.in_ok-needs.ensures.slots))
 
 pub returns-in_err-placement-clause-err : goal.returns-in_err-placement-clause-err
 returns-in_err-placement-clause-err c =
@@ -30,26 +33,26 @@ returns-in_err-placement-clause-err c =
     let r = err_from_is_err_and c.from_residual-in_err-placement.result c.from_residual-in_err-placement.ensures.1 in
     rw (r.1, r.2) (elim c.in_err-placement.ensures.err [
       | inl a ↦ inl (ap as_link_fault a)
-      | inr e ↦ inr (span_fault c.args.kit.now c.args.inputs.now c.args.order.now (q.kit.kernel q.kernel) q.inputs q.simple q.order c.in_ok-graph.graph c.in_ok-graph.ensures.ok
-          c.in_ok-graph.ensures.sound (option_copied c.args.gaps) (ap option_copied q.no_gaps) _ e)
+      | inr e ↦ inr (span_is c.args.kit.now c.args.inputs.now (option_copied c.args.gaps) c.args.order.now q.kit q.kernel q.inputs q.order c.in_ok-graph.graph c.in_ok-graph.ensures.ok c.in_ok-graph.ensures.graph
+          c.made_areas.result (c.made_areas.ensures c.args.kit.now c.in_ok-graph.graph q.kernel (c.items-slots.ensures ∙ c.in_ok-needs.ensures.slots)) c.in_ok-graph.ensures.sound _ e)
     ])
 
-pub text_image-requires-clause-stands : goal.text_image-requires-clause-stands
-text_image-requires-clause-stands c =
-    let q = c.requires in let p = c.in_ok-placement.ensures in
-    stands c.args.kit.now c.args.inputs.now c.args.order.now (q.kit.kernel q.kernel) q.inputs q.simple q.order c.in_ok-graph.graph c.in_ok-graph.ensures.ok
-    c.in_ok-graph.ensures.sound c.in_ok-placement.placement (option_copied c.args.gaps) (ap option_copied q.no_gaps) p.laid p.names p.placed p.small
+pub kernel_image-requires-clause-laid : goal.kernel_image-requires-clause-laid
+kernel_image-requires-clause-laid c =
+    let q = c.requires in let p = c.in_ok-placement.ensures in (
+      c.args.order.now,
+      laid_kernel c.args.kit.now c.args.inputs.now (option_copied c.args.gaps) c.args.order.now q.kit q.kernel q.inputs q.order c.in_ok-graph.graph c.in_ok-graph.ensures.ok c.in_ok-graph.ensures.graph
+          c.made_areas.result (c.made_areas.ensures c.args.kit.now c.in_ok-graph.graph q.kernel (c.items-slots.ensures ∙ c.in_ok-needs.ensures.slots)) c.in_ok-placement.placement p.laid p.names p.placed p.small,
+    )
 
-pub text_image-requires-clause-only : goal.text_image-requires-clause-only
-text_image-requires-clause-only c =
+pub kernel_image-requires-clause-addresses : goal.kernel_image-requires-clause-addresses
+kernel_image-requires-clause-addresses c =
     let q = c.requires in let p = c.in_ok-placement.ensures in
-    only c.args.kit.now c.args.inputs.now c.args.order.now (q.kit.kernel q.kernel) q.inputs q.simple q.order c.in_ok-graph.graph c.in_ok-graph.ensures.ok
-    c.in_ok-graph.ensures.sound c.in_ok-placement.placement (option_copied c.args.gaps) (ap option_copied q.no_gaps) p.laid p.names p.placed p.small
+    addresses c.args.kit.now c.args.inputs.now (option_copied c.args.gaps) c.args.order.now q.kit q.kernel q.inputs q.order c.in_ok-graph.graph c.in_ok-graph.ensures.ok c.in_ok-graph.ensures.graph
+    c.made_areas.result (c.made_areas.ensures c.args.kit.now c.in_ok-graph.graph q.kernel (c.items-slots.ensures ∙ c.in_ok-needs.ensures.slots)) c.in_ok-placement.placement p.laid p.names p.placed p.small
 
-pub text_image-requires-clause-writable : goal.text_image-requires-clause-writable
-text_image-requires-clause-writable c =
-    let q = c.requires in
-    graph_writable c.args.kit.now c.args.inputs.now c.args.order.now (q.kit.kernel q.kernel) q.inputs q.simple q.order c.in_ok-graph.graph c.in_ok-graph.ensures.ok c.in_ok-graph.ensures.sound
+pub kernel_image-requires-clause-sources : goal.kernel_image-requires-clause-sources
+kernel_image-requires-clause-sources c = let q = c.requires in sources c.args.kit.now c.args.inputs.now (option_copied c.args.gaps) c.args.order.now q.kit q.kernel q.inputs q.order c.in_ok-graph.graph c.in_ok-graph.ensures.ok c.in_ok-graph.ensures.graph
 
 pub returns-in_err-image-clause-err : goal.returns-in_err-image-clause-err
 returns-in_err-image-clause-err c =
@@ -57,28 +60,20 @@ returns-in_err-image-clause-err c =
     let r = err_from_is_err_and c.from_residual-in_err-image.result c.from_residual-in_err-image.ensures.1 in
     rw (r.1, r.2) (elim c.in_err-image.ensures.err [
       | inl a ↦ inl a
-      | inr e ↦ inr (range_is c.args.kit.now c.args.inputs.now c.args.order.now (q.kit.kernel q.kernel) q.inputs q.simple q.order c.in_ok-graph.graph c.in_ok-graph.ensures.ok
-          c.in_ok-graph.ensures.sound c.in_ok-placement.placement (option_copied c.args.gaps) (ap option_copied q.no_gaps) p.laid p.names p.placed p.small ∙ e)
+      | inr e ↦ inr (range_is c.args.kit.now c.args.inputs.now (option_copied c.args.gaps) c.args.order.now q.kit q.kernel q.inputs q.order c.in_ok-graph.graph c.in_ok-graph.ensures.ok c.in_ok-graph.ensures.graph
+          c.made_areas.result (c.made_areas.ensures c.args.kit.now c.in_ok-graph.graph q.kernel (c.items-slots.ensures ∙ c.in_ok-needs.ensures.slots)) c.in_ok-placement.placement p.laid p.names p.placed p.small c.in_ok-graph.ensures.sound ∙ e)
     ])
-
-pub overflow_cast-fields : goal.overflow_cast-fields
-overflow_cast-fields c =
-    let q = c.requires in
-    let w = graph_writable c.args.kit.now c.args.inputs.now c.args.order.now (q.kit.kernel q.kernel) q.inputs q.simple q.order c.in_ok-graph.graph c.in_ok-graph.ensures.ok c.in_ok-graph.ensures.sound in
-    let count = w.count in
-    rw c.items.ensures (omega arith)
 
 pub returns-clause-ok : goal.returns-clause-ok
 returns-clause-ok c =
     let q = c.requires in let p = c.in_ok-placement.ensures in
-    carries_kit c.args.kit.now c.args.inputs.now c.args.order.now (q.kit.kernel q.kernel) q.inputs q.simple q.order c.in_ok-graph.graph c.in_ok-graph.ensures.ok
-    c.in_ok-graph.ensures.sound c.in_ok-placement.placement (option_copied c.args.gaps) (ap option_copied q.no_gaps) p.laid p.names p.placed p.small c.in_ok-image.image.items c.in_ok-image.ensures.ok
+    carries_kit c.args.kit.now c.args.inputs.now (option_copied c.args.gaps) c.args.order.now q.kit q.kernel q.inputs q.order c.in_ok-graph.graph c.in_ok-graph.ensures.ok c.in_ok-graph.ensures.graph
+    c.made_areas.result (c.made_areas.ensures c.args.kit.now c.in_ok-graph.graph q.kernel (c.items-slots.ensures ∙ c.in_ok-needs.ensures.slots)) c.in_ok-placement.placement p.laid p.names p.placed p.small
+    c.in_ok-graph.ensures.sound c.in_ok-image.ensures.sound c.in_ok-image.image.items c.in_ok-image.ensures.image
 
 pub returns-clause-sound : goal.returns-clause-sound
 returns-clause-sound c =
     let q = c.requires in let p = c.in_ok-placement.ensures in
-    none_stands c.args.kit.now c.args.inputs.now c.args.order.now (q.kit.kernel q.kernel) q.inputs q.simple q.order c.in_ok-graph.graph c.in_ok-graph.ensures.ok
-    c.in_ok-graph.ensures.sound c.in_ok-placement.placement (option_copied c.args.gaps) (ap option_copied q.no_gaps) p.laid p.names p.placed p.small c.in_ok-image.image.items c.in_ok-image.ensures.ok
-
-pub place-requires-clause-kit : goal.place-requires-clause-kit
-place-requires-clause-kit c = (c.requires.kit.kernel c.requires.kernel).base_limit
+    none_stands c.args.kit.now c.args.inputs.now (option_copied c.args.gaps) c.args.order.now q.kit q.kernel q.inputs q.order c.in_ok-graph.graph c.in_ok-graph.ensures.ok c.in_ok-graph.ensures.graph
+    c.made_areas.result (c.made_areas.ensures c.args.kit.now c.in_ok-graph.graph q.kernel (c.items-slots.ensures ∙ c.in_ok-needs.ensures.slots)) c.in_ok-placement.placement p.laid p.names p.placed p.small
+    c.in_ok-graph.ensures.sound c.in_ok-image.ensures.sound

@@ -1,2 +1,0 @@
-pub mod KitTexts
-pub mod KitForms

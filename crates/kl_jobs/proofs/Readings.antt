@@ -1,0 +1,129 @@
+-- Files that are read one after another.
+use Rattle.std.proofs.Common.{◌≡◌, inl, inr, ◌⊎◌, ℕ, suc, ◌+◌, ◌<◌, ◌≤◌, true, false, List, [], ◌∷◌, ◌++◌, length, map, take, drop, get_or, refl, sym, ap, ◌∙◌, subst, arith, length-append, drop-cons, add-one}
+use Rattle.std.specs.Prelude.{Option, Some, None, sum_by, Bool, cond, nat_lt, ◌^◌}
+use Rattle.std.specs.Option.{option_map, option_or}
+use Rattle.std.specs.FinMap.{get}
+use Rattle.std.proofs.lemmas.List.{map_more}
+use Rattle.std.proofs.lemmas.List.Sums.{sum_by-append}
+use Rattle.std.proofs.lemmas.Bool.{le-ltb, ltb-false}
+use Rattle.kl_base.specs.declared.limits.TheConstants.{FIELD_COUNT_LIMIT, INPUT_BYTES_LIMIT, INPUT_COUNT_LIMIT, INPUT_LIMIT, SECTION_COUNT_LIMIT, SYMBOL_COUNT_LIMIT}
+use Rattle.kl_store.specs.Names.{Names}
+use Rattle.kl_model.specs.declared.kit.KitInput.{KitInput}
+use Rattle.kl_model.specs.declared.object.Part.{Part}
+use Rattle.kl_model.specs.declared.object.Object.{Object}
+use Rattle.kl_model.specs.declared.object.Input.{Input}
+use Rattle.kl_rel.specs.Objects.{flaw, object}
+use Rattle.kl_rel.specs.declared.fault.ReadFault.{ReadFault}
+use Rattle.kl_jobs.specs.declared.cause.Cause.{Cause}
+use Rattle.kl_jobs.specs.declared.cause.Cause.TheVariants.{NotYet}
+use Rattle.kl_jobs.specs.declared.cause.Cause.TheVariants as cause
+use Rattle.kl_jobs.specs.declared.cause.ObjectCause.TheVariants.{Elf}
+use Rattle.kl_jobs.specs.declared.cause.TotalOf.TheVariants.{Inputs, Bytes, Sections, Symbols, Fields}
+use Rattle.kl_jobs.specs.declared.cause.TotalOf.{TotalOf}
+use Rattle.kl_jobs.specs.Reading.{Counts, below, file_fault, flaw_cause, held, input_of, input_refusal, inputs_in, is_archive, lines_refusal, over, over_totals, total_cause}
+
+drop_here : (all : List KitInput) (i : ℕ) (k : KitInput) → i < length all → k ≡ get_or all i k → drop i all ≡ k ∷ drop (suc i) all
+drop_here all i k less here = drop-cons all i k less ∙ ap (λ (j : KitInput). j ∷ drop (suc i) all) (sym here)
+
+-- a file that is read, and whose input is taken, refuses nothing
+passed : (m : Names) (dir : List ℕ) (before : List Input) (k : KitInput) (ks : List KitInput) (bytes : List ℕ) → get m (below dir k.file) ≡ Some bytes → length bytes ≤ INPUT_LIMIT
+    → input_refusal k.line before (input_of k.place bytes) ≡ None → lines_refusal m dir before (k ∷ ks) ≡ lines_refusal m dir (before ++ input_of k.place bytes ∷ []) ks
+passed m dir before k ks bytes e h none = rw (e, le-ltb INPUT_LIMIT (length bytes) h, none) refl
+
+-- the first refusal of the first of some lines is theirs
+refused_file : (m : Names) (dir : List ℕ) (before : List Input) (k : KitInput) (ks : List KitInput) (c : Cause) → file_fault m (below dir k.file) INPUT_LIMIT ≡ Some c
+    → lines_refusal m dir before (k ∷ ks) ≡ Some c
+refused_file m dir before k ks c e = rw e refl
+
+refused_input : (m : Names) (dir : List ℕ) (before : List Input) (k : KitInput) (ks : List KitInput) (bytes : List ℕ) (c : Cause) → get m (below dir k.file) ≡ Some bytes
+    → length bytes ≤ INPUT_LIMIT → input_refusal k.line before (input_of k.place bytes) ≡ Some c → lines_refusal m dir before (k ∷ ks) ≡ Some c
+refused_input m dir before k ks bytes c e h some = rw (e, le-ltb INPUT_LIMIT (length bytes) h, some) refl
+
+-- how much inputs have with one more
+pub counts_none : Counts [] 0 0 0 0 0
+counts_none = record { inputs_are = refl; bytes_are = refl; sections_are = refl; symbols_are = refl; fields_are = refl }
+
+counts_more : (xs : List Input) (x : Input) (i b s y f : ℕ) → Counts xs i b s y f
+    → Counts (xs ++ x ∷ []) (i + 1) (b + length x.bytes) (s + length x.object.sections) (y + length x.object.symbols) (f + length x.object.fields)
+counts_more xs x i b s y f c = record {
+  inputs_are = omega (arith, c.inputs_are, length-append xs (x ∷ []));
+  bytes_are = omega (arith, c.bytes_are, sum_by-append (λ x. length x.bytes) xs (x ∷ []));
+  sections_are = omega (arith, c.sections_are, sum_by-append (λ x. length x.object.sections) xs (x ∷ []));
+  symbols_are = omega (arith, c.symbols_are, sum_by-append (λ x. length x.object.symbols) xs (x ∷ []));
+  fields_are = omega (arith, c.fields_are, sum_by-append (λ x. length x.object.fields) xs (x ∷ []));
+}
+
+pub counts_over : (xs : List Input) (i b s y f : ℕ) → Counts xs i b s y f → over_totals i b s y f ≡ over xs
+unfolding over
+counts_over xs i b s y f c = rw (c.inputs_are, c.bytes_are, c.sections_are, c.symbols_are, c.fields_are) refl
+
+step : (t : Bool) (what : TotalOf) (rest : Option TotalOf) → cond t (Some what) rest ≡ None → (t ≡ false) × (rest ≡ None)
+step true what rest e = let no : ◌≡◌ {A = Option TotalOf} (Some what) None = e in cc
+step false what rest e = (refl, e)
+
+-- no total passes its limit
+pub within : (i b s y f : ℕ) → over_totals i b s y f ≡ None
+    → (i ≤ INPUT_COUNT_LIMIT) × ((b ≤ INPUT_BYTES_LIMIT) × ((s ≤ SECTION_COUNT_LIMIT) × ((y ≤ SYMBOL_COUNT_LIMIT) × (f ≤ FIELD_COUNT_LIMIT))))
+within i b s y f e =
+    let one = step (nat_lt INPUT_COUNT_LIMIT i) Inputs _ e in
+    let two = step (nat_lt INPUT_BYTES_LIMIT b) Bytes _ one.1 in
+    let three = step (nat_lt SECTION_COUNT_LIMIT s) Sections _ two.1 in
+    let four = step (nat_lt SYMBOL_COUNT_LIMIT y) Symbols _ three.1 in
+    let five = step (nat_lt FIELD_COUNT_LIMIT f) Fields _ four.1 in (
+      ltb-false INPUT_COUNT_LIMIT i one.0,
+      (ltb-false INPUT_BYTES_LIMIT b two.0, (ltb-false SECTION_COUNT_LIMIT s three.0, (ltb-false SYMBOL_COUNT_LIMIT y four.0, ltb-false FIELD_COUNT_LIMIT f five.0))),
+    )
+
+-- so none of inputs that are within the limits does
+pub bounds : (xs : List Input) (i b s y f : ℕ) → Counts xs i b s y f → over xs ≡ None
+    → (i ≤ INPUT_COUNT_LIMIT) × ((b ≤ INPUT_BYTES_LIMIT) × ((s ≤ SECTION_COUNT_LIMIT) × ((y ≤ SYMBOL_COUNT_LIMIT) × (f ≤ FIELD_COUNT_LIMIT))))
+bounds xs i b s y f counts none = within i b s y f (counts_over xs i b s y f counts ∙ none)
+
+-- the first refusal of an input: that it is an archive, its flaw, or what it takes the kit past
+pub archive_refused : (line : ℕ) (before : List Input) (place : Part) (b : List ℕ) → is_archive b ≡ true → input_refusal line before (input_of place b) ≡ Some NotYet
+unfolding input_refusal
+archive_refused line before place b archive = rw archive refl
+
+pub flaw_refused : (line : ℕ) (before : List Input) (place : Part) (b : List ℕ) (f : ReadFault) (n : ℕ) → n ≡ length before → is_archive b ≡ false → flaw b ≡ Some f
+    → input_refusal line before (input_of place b) ≡ Some (cause.Object n line (Elf f))
+unfolding input_refusal
+flaw_refused line before place b f n is plain e = rw (plain, e, is) refl
+
+pub limit_refused : (line : ℕ) (before : List Input) (place : Part) (b : List ℕ) (o : Option TotalOf) → is_archive b ≡ false → flaw b ≡ None → o ≡ over (before ++ input_of place b ∷ [])
+    → input_refusal line before (input_of place b) ≡ option_map (total_cause line) o
+unfolding input_refusal
+limit_refused line before place b o plain sound is = rw (plain, sound, ← is) refl
+
+-- the totals with one input more
+pub over_more : (xs : List Input) (place : Part) (b : List ℕ) (x : Object) (i by s y f i2 b2 s2 y2 f2 : ℕ) → Counts xs i by s y f → x ≡ object b
+    → i2 ≡ i + 1 → b2 ≡ by + length b → s2 ≡ s + length x.sections → y2 ≡ y + length x.symbols → f2 ≡ f + length x.fields
+    → Counts (xs ++ input_of place b ∷ []) i2 b2 s2 y2 f2
+over_more xs place b x i by s y f i2 b2 s2 y2 f2 counts is e1 e2 e3 e4 e5 = rw (e1, e2, e3, e4, e5, is) (counts_more xs (input_of place b) i by s y f counts)
+
+module _ (m : Names) (dir : List ℕ) (all : List KitInput) (before : List Input) (i : ℕ) (k : KitInput) (less : i < length all) (here : k ≡ get_or all i k)
+    (rest : lines_refusal m dir [] all ≡ lines_refusal m dir before (drop i all)) where
+  -- what refuses the next file refuses the whole
+  pub file_refuses : (c : Cause) → file_fault m (below dir k.file) INPUT_LIMIT ≡ Some c → lines_refusal m dir [] all ≡ Some c
+  file_refuses c fault = rest ∙ ap (lines_refusal m dir before) (drop_here all i k less here) ∙ refused_file m dir before k (drop (suc i) all) c fault
+
+  module _ (bytes : List ℕ) (file : get m (below dir k.file) ≡ Some bytes) (size : length bytes ≤ INPUT_LIMIT) where
+    pub input_refuses : (c : Cause) → input_refusal k.line before (input_of k.place bytes) ≡ Some c → lines_refusal m dir [] all ≡ Some c
+    input_refuses c some = rest ∙ ap (lines_refusal m dir before) (drop_here all i k less here) ∙ refused_input m dir before k (drop (suc i) all) bytes c file size some
+
+    -- a file that is taken
+    pub passed_on : (after : List Input) → input_refusal k.line before (input_of k.place bytes) ≡ None → after ≡ before ++ input_of k.place bytes ∷ []
+        → lines_refusal m dir [] all ≡ lines_refusal m dir after (drop (i + 1) all)
+    passed_on after none taken =
+        rest ∙ ap (lines_refusal m dir before) (drop_here all i k less here) ∙ passed m dir before k (drop (suc i) all) bytes file size none
+        ∙ ap (λ (l : List Input). lines_refusal m dir l (drop (suc i) all)) (sym taken) ∙ ap (λ n. lines_refusal m dir after (drop n all)) (sym (add-one i))
+
+    pub read_on : (after : List Input) → after ≡ before ++ input_of k.place bytes ∷ [] → before ≡ inputs_in m dir (take i all) → after ≡ inputs_in m dir (take (i + 1) all)
+    read_on after taken read =
+        let one : KitInput → Input = λ (k : KitInput). input_of k.place (held m (below dir k.file)) in
+        let held_is : held m (below dir k.file) ≡ bytes = rw file refl in
+        taken ∙ ap (λ (l : List Input). l ++ input_of k.place bytes ∷ []) read ∙ ap (λ (b : List ℕ). inputs_in m dir (take i all) ++ input_of k.place b ∷ []) (sym held_is)
+        ∙ ap (λ (j : KitInput). inputs_in m dir (take i all) ++ one j ∷ []) here ∙ sym (map_more one all i k less)
+
+pub over_none : over [] ≡ None
+unfolding over
+over_none = refl

@@ -1,0 +1,6 @@
+# As much memory as an image may span.
+
+        .section .space,"aw",@nobits
+        .globl start
+start:
+        .skip 536870912
