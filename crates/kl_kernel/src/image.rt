@@ -11,11 +11,8 @@ ghost use Rattle.kl_write.specs.LaidKernel.{HasAreaAddresses, HaveSources, IsLai
 
 use kl_base::NoMemory;
 use kl_model::{Gaps, Graph, Input, Kit, LinkFault, Made, Placement, Target};
-use kl_write::{Plan, field_values, fill, headers, image_size, slot_addresses};
+use kl_write::{Plan, SLOT_SIZE, field_values, fill, headers, image_size, slot_addresses};
 use std::alloc::Global;
-
-/// The size of a slot of the global offset table, in bytes (psABI).
-const SLOT_SIZE: u64 = 8;
 
 /// The sizes of the areas that the linker makes in a kernel. `slots` has the targets that need a slot of the global offset table.
 pub fn made_areas(slots: &[Target]) -> Made
@@ -25,7 +22,7 @@ pub fn made_areas(slots: &[Target]) -> Made
     Made {
         stubs: 0,
         tables: 0,
-        got: SLOT_SIZE * slots.len() as u64,
+        got: SLOT_SIZE as u64 * slots.len() as u64,
         dynamic: 0,
     }
 }

@@ -12,7 +12,6 @@ pub mod Carries
 pub mod Orders
 pub mod Fit
 pub mod Faults
-pub mod Simple
 pub mod Relocations
 pub mod Areas
 pub mod Kits

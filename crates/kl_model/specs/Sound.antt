@@ -52,9 +52,6 @@ HasSource inputs r (id.Section i s) = (i < length inputs) × (r.at + r.len ≤ l
 HasSource inputs r (id.Common n) = r.len ≡ 0
 HasSource inputs r (id.Gap c) = r.len ≡ 0
 
-abbrev pub AreSourced : List Input → Graph → Type 0
-AreSourced inputs g = All (λ x. HasSource inputs x.bytes x.id) g.pieces
-
 -- a target whose numbers are in their lists
 abbrev pub IsSoundTarget : Kit → Graph → Target → Type 0
 IsSoundTarget kit g (Place n k) = (n < length g.pieces) × (k ≤ SIZE_LIMIT)

@@ -1,5 +1,5 @@
 -- Where symbols and commons lead. For the contracts inside this crate alone.
-use Rattle.std.specs.Prelude.{ℕ, ◌<◌, cond, ◌==◌, List, length, slice_index_or, Option, Some, None}
+use Rattle.std.specs.Prelude.{ℕ, ◌<◌, if◌then◌else◌, ◌==◌, List, length, slice_index_or, Option, Some, None}
 use Rattle.std.specs.Str.{bytes_eq}
 use Rattle.std.specs.Option.{option_map}
 use Rattle.std.specs.List.{position_from}
@@ -15,7 +15,8 @@ use Rattle.kl_names.specs.declared.facts.SymbolAt.{SymbolAt}
 
 -- where a symbol leads that is absolute (gABI, SHN_ABS) or in a section that has a piece
 abbrev pub symbol_place : List (Option ℕ) → Symbol → Option Target
-symbol_place table y = cond (y.section == SHN_ABS) (Some (Abs y.value)) (option_map (λ n. Place n y.value) (slice_index_or table y.section None))
+symbol_place table y =
+    if y.section == SHN_ABS then Some (Abs y.value) else option_map (λ n. Place n y.value) (slice_index_or table y.section None)
 
 -- a symbol stands there
 pub record Stands (inputs : List Input) (at : SymbolAt) : Type 0 where

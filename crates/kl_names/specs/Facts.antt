@@ -1,5 +1,5 @@
 -- What the symbols of each name say, in the words of the definitions.
-use Rattle.std.specs.Prelude.{ℕ, ◌≡◌, cond, ◌==◌, List, map, filter, slice_get, Option, Some, None}
+use Rattle.std.specs.Prelude.{ℕ, ◌≡◌, if◌then◌else◌, ◌==◌, List, map, filter, slice_get, Option, Some, None}
 use Rattle.std.specs.Str.{bytes_eq}
 use Rattle.std.specs.Option.{option_map}
 use Rattle.std.specs.List.{list_all}
@@ -20,7 +20,8 @@ stands_at o = record { input = o.input; number = o.number }
 
 -- what the commons of a name ask for, where there are some
 abbrev pub common_of : List Input → List ℕ → Option Common
-common_of inputs name = cond (is_empty (commons_of inputs name)) None (Some (record { size = common_size inputs name; align = common_align inputs name }))
+common_of inputs name =
+    if is_empty (commons_of inputs name) then None else Some (record { size = common_size inputs name; align = common_align inputs name })
 
 -- what the symbols of a name say
 abbrev pub facts_of : Kit → List Input → List ℕ → NameFacts

@@ -1,5 +1,5 @@
 -- What is noted of each name after some symbols. For the contracts inside this crate alone.
-use Rattle.std.specs.Prelude.{ℕ, ◌≡◌, Bool, cond, not, ◌&&◌, ◌||◌, ◌==◌, nat_lt, max, List, [], map, filter, find, fold, reverse, length, slice_get, slice_index_or, unwrap_or, Option, Some, None, is_some}
+use Rattle.std.specs.Prelude.{ℕ, ◌≡◌, Bool, if◌then◌else◌, not, ◌&&◌, ◌||◌, ◌==◌, nat_lt, max, List, [], map, filter, find, fold, reverse, length, slice_get, slice_index_or, unwrap_or, Option, Some, None, is_some}
 use Rattle.std.specs.Str.{bytes_eq}
 use Rattle.std.specs.Option.{option_map, option_or}
 use Rattle.std.specs.List.{list_all}
@@ -32,19 +32,18 @@ with_common c y =
 abbrev pub noted : NameFacts → Symbol → SymbolAt → Bool → NameFacts
 noted f y at d = record {
   first = option_or f.first (Some at);
-  global = option_or f.global (cond (d && (y.binding == STB_GLOBAL)) (Some at) None);
-  weak = option_or f.weak (cond (d && (y.binding == STB_WEAK)) (Some at) None);
-  common = cond (y.section == SHN_COMMON) (Some (with_common f.common y)) f.common;
-  visibility = cond (nat_lt (rank f.visibility) (rank y.visibility)) y.visibility f.visibility;
+  global = option_or f.global (if d && (y.binding == STB_GLOBAL) then Some at else None);
+  weak = option_or f.weak (if d && (y.binding == STB_WEAK) then Some at else None);
+  common = if y.section == SHN_COMMON then Some (with_common f.common y) else f.common;
+  visibility = if nat_lt (rank f.visibility) (rank y.visibility) then y.visibility else f.visibility;
   all_weak = f.all_weak && (y.binding == STB_WEAK);
 }
 
 -- what some commons of one name ask for
 abbrev pub common_among : List Occurrence → Option Common
-common_among cs = cond (is_empty cs) None (Some (record {
-  size = fold (λ n o. max n o.symbol.size) 0 cs;
-  align = fold (λ n o. max n o.symbol.value) 1 cs;
-}))
+common_among cs =
+    if is_empty cs then None
+    else Some (record { size = fold (λ n o. max n o.symbol.size) 0 cs; align = fold (λ n o. max n o.symbol.value) 1 cs })
 
 -- what some symbols of one name say
 abbrev pub facts_among : Kit → List Input → List Occurrence → NameFacts
@@ -53,7 +52,7 @@ facts_among kit inputs os = record {
   global = option_map stands_at (find (λ o. (o.symbol.binding == STB_GLOBAL) && is_definition kit inputs o) os);
   weak = option_map stands_at (find (λ o. (o.symbol.binding == STB_WEAK) && is_definition kit inputs o) os);
   common = common_among (filter is_common os);
-  visibility = fold (λ v o. cond (nat_lt (rank v) (rank o.symbol.visibility)) o.symbol.visibility v) STV_DEFAULT os;
+  visibility = fold (λ v o. if nat_lt (rank v) (rank o.symbol.visibility) then o.symbol.visibility else v) STV_DEFAULT os;
   all_weak = list_all (λ o. o.symbol.binding == STB_WEAK) os;
 }
 

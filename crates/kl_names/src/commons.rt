@@ -1,5 +1,5 @@
 // The pieces of common symbols (gABI, `SHN_COMMON`).
-ghost use Rattle.std.specs.Prelude.{◌≡◌, cond, is_none, map, slice_get, None, Some, IfOk};
+ghost use Rattle.std.specs.Prelude.{◌≡◌, if◌then◌else◌, is_none, map, slice_get, None, Some, IfOk};
 ghost use Rattle.kl_model.specs.Fit.{AreFit};
 ghost use Rattle.kl_model.specs.Graphs.{common_pieces as pieces_of_commons};
 ghost use Rattle.kl_model.specs.Names.{common_names};
@@ -39,7 +39,7 @@ fn common_piece(number: u32, common: Common) -> Piece
 
 /// What the commons of a name ask for, where they hold.
 fn holding(facts: &NameFacts) -> Option<Common>
-    ensures { result ≡ cond (is_none facts.now.global) facts.now.common None }
+    ensures { result ≡ (if is_none facts.now.global then facts.now.common else None) }
 {
     if facts.global.is_none() {
         facts.common

@@ -1,5 +1,5 @@
 // What the symbols of each name say.
-ghost use Rattle.std.specs.Prelude.{◌≡◌, ◌==◌, ◌&&◌, cond, nat_lt, Some, None};
+ghost use Rattle.std.specs.Prelude.{◌≡◌, ◌==◌, ◌&&◌, if◌then◌else◌, nat_lt, Some, None};
 ghost use Rattle.std.specs.Option.{option_or};
 ghost use Rattle.kl_model.specs.Names.{rank as rank_of};
 ghost use Rattle.kl_names.specs.Noted.{noted, with_common};
@@ -66,7 +66,7 @@ fn rank(visibility: u8) -> u8
 
 /// The more constraining of two visibilities, the first where they are alike.
 fn stricter(old: u8, new: u8) -> u8
-    ensures { result ≡ cond (nat_lt (rank_of old) (rank_of new)) new old }
+    ensures { result ≡ (if nat_lt (rank_of old) (rank_of new) then new else old) }
 {
     if rank(old) < rank(new) { new } else { old }
 }
@@ -84,7 +84,7 @@ fn with_common(common: Option<Common>, symbol: &Symbol) -> Common
 
 /// What the commons of a name ask for after one more symbol.
 fn commons_of(common: Option<Common>, symbol: &Symbol) -> Option<Common>
-    ensures { result ≡ cond (symbol.now.section == SHN_COMMON) (Some (with_common common symbol.now)) common }
+    ensures { result ≡ (if symbol.now.section == SHN_COMMON then Some (with_common common symbol.now) else common) }
 {
     if symbol.section == u32::from(SHN_COMMON) {
         Some(with_common(common, symbol))
@@ -95,7 +95,7 @@ fn commons_of(common: Option<Common>, symbol: &Symbol) -> Option<Common>
 
 /// The first of some symbols, after one more that may be one of them.
 fn first_of(first: Option<SymbolAt>, belongs: bool, at: SymbolAt) -> Option<SymbolAt>
-    ensures { result ≡ option_or first (cond belongs (Some at) None) }
+    ensures { result ≡ option_or first (if belongs then Some at else None) }
 {
     match first {
         Some(first) => Some(first),

@@ -23,11 +23,9 @@ pub struct Numbering<'a> {
 
 /// The name of a symbol of an input.
 pub fn symbol_name<'a>(input: &'a Input, symbol: &Symbol) -> &'a [u8]
-    requires { symbol.now.name.at + symbol.now.name.len ≤ length input.now.bytes }
     ensures { result.now ≡ text_at input.now.bytes symbol.now.name }
 {
-    let at = symbol.name.at as usize;
-    &input.bytes.items()[at..at + symbol.name.len as usize]
+    input.text(symbol.name)
 }
 
 /// How many symbols the inputs have, LOCAL ones among them.

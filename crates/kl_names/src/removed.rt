@@ -15,11 +15,9 @@ pub type RemovedTable = Listed<bool>;
 
 /// The signature of a group of an input.
 fn signature_of<'a>(input: &'a Input, group: &Group) -> &'a [u8]
-    requires { group.now.signature.at + group.now.signature.len ≤ length input.now.bytes }
     ensures { result.now ≡ text_at input.now.bytes group.now.signature }
 {
-    let at = group.signature.at as usize;
-    &input.bytes.items()[at..at + group.signature.len as usize]
+    input.text(group.signature)
 }
 
 /// Marks these sections.

@@ -5,6 +5,7 @@ use Rattle.std.proofs.lemmas.Bool.{cases_lt}
 use Rattle.std.proofs.lemmas.List.{get_or-append-add, get_or_default, get_or_past}
 use Rattle.std.proofs.lemmas.Nat.{pow_pos}
 use Rattle.std.proofs.Math.Nat.{max-eq_left}
+use Rattle.kl_base.proofs.Bools.{and_left}
 use Rattle.kl_model.specs.Lists.{each, each_from}
 use Rattle.kl_model.specs.Texts.{has}
 use Rattle.kl_model.specs.Kept.{is_kept, input_at, no_input, no_section, section_at}
@@ -18,7 +19,6 @@ use Rattle.kl_model.specs.declared.graph.Piece.{Piece}
 use Rattle.kl_model.specs.declared.graph.PieceId.TheVariants as id
 use Rattle.kl_model.proofs.Each.{each-split, each-all, all-only_if}
 use Rattle.kl_sym.proofs.PieceNumbers.{number_is}
-use Rattle.kl_sym.proofs.SimpleKits.{and_left}
 
 -- a section that stands in an input
 module _ (kit : Kit) (inputs : List Input) where

@@ -1,7 +1,5 @@
-pub mod SimpleKits
 pub mod PieceNumbers
 pub mod PieceSteps
-pub mod SimpleNames
 pub mod KernelNames
 pub mod KitEdges
 pub mod LeadSteps
@@ -12,5 +10,4 @@ pub mod PieceAreas
 pub mod SoundTargets
 pub mod SoundPieces
 pub mod SoundFields
-pub mod SimpleGraphs
 pub mod RunSteps

@@ -6,6 +6,7 @@ use Rattle.std.specs.List.{position_from}
 use Rattle.std.proofs.lemmas.Bool.{cases_Bool}
 use Rattle.std.proofs.lemmas.Cmp.{nat_eq_equiv}
 use Rattle.std.proofs.lemmas.List.Folds.{list_any-append}
+use Rattle.kl_base.proofs.Bools.{and_right}
 use Rattle.kl_base.specs.declared.class.Class.{Class}
 use Rattle.kl_base.specs.declared.class.Class.TheVariants.{Text, Rodata, Rwdata, Bss}
 use Rattle.kl_elf.specs.declared.abi.TheConstants.{SHT_FINI_ARRAY, SHT_INIT_ARRAY}
@@ -16,7 +17,6 @@ use Rattle.kl_model.specs.Sound.{class_areas, run_areas}
 use Rattle.kl_model.specs.declared.area.TheConstants as area
 use Rattle.kl_model.specs.declared.kit.Kit.{Kit}
 use Rattle.kl_model.specs.declared.kit.Run.{Run}
-use Rattle.kl_sym.proofs.SimpleKits.{and_right}
 
 -- a number that was found is among those
 abbrev FoundIn : List ℕ → Option ℕ → Type 0

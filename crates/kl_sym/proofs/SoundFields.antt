@@ -12,7 +12,7 @@ use Rattle.std.proofs.lemmas.List.{get_or_default, length-map}
 use Rattle.std.proofs.lemmas.List.Elements.{All-map}
 use Rattle.std.proofs.lemmas.List.Sums.{sum_by-cons}
 use Rattle.std.proofs.lemmas.Map.Views.{any-filter_same}
-use Rattle.kl_base.proofs.Bools.{equal_bytes}
+use Rattle.kl_base.proofs.Bools.{and_left, and_right, equal_bytes, not_true, or_right}
 use Rattle.kl_base.specs.declared.limits.TheConstants.{FIELD_COUNT_LIMIT, SECTION_COUNT_LIMIT, SYMBOL_COUNT_LIMIT}
 use Rattle.kl_elf.specs.declared.abi.TheConstants.{R_X86_64_NONE, SHN_ABS, SHN_COMMON, SHT_NOBITS, STB_LOCAL, STB_WEAK}
 use Rattle.kl_le.specs.Bytes.{Within}
@@ -43,7 +43,6 @@ use Rattle.kl_model.proofs.StandOnce.{names_are}
 use Rattle.kl_sym.proofs.FieldTargets.{field_faults_of, no_entry_at}
 use Rattle.kl_sym.proofs.KeptPieces.{kept_known, number-lt, piece_there, same_piece}
 use Rattle.kl_sym.proofs.PieceNumbers.{only_if-le, sum_by-ones}
-use Rattle.kl_sym.proofs.SimpleKits.{and_left, and_right, not_true, or_right}
 use Rattle.kl_sym.proofs.SoundPieces.{any_in, bss_blank, parts_count, pieces_sound}
 use Rattle.kl_sym.proofs.SoundTargets.{EdgesKnown, definition_sound, length-ones, number_known, own_sound, place_sound, position-any}
 

@@ -8,6 +8,7 @@ use Rattle.std.proofs.lemmas.Bool.{cases_Bool, cases_lt, eqb-true}
 use Rattle.std.proofs.lemmas.List.{length-map}
 use Rattle.std.proofs.lemmas.List.Elements.{All-append, All-cons, All-filter, All-head, All-tail}
 use Rattle.std.proofs.lemmas.List.Folds.{list_any-append}
+use Rattle.kl_base.proofs.Bools.{and_left}
 use Rattle.kl_base.specs.declared.class.Class.TheVariants.{Text, Rodata, Rwdata, Bss}
 use Rattle.kl_base.specs.declared.limits.TheConstants.{ALIGN_POWER_LIMIT, SIZE_LIMIT}
 use Rattle.kl_elf.specs.declared.abi.TheConstants.{SHF_ALLOC, SHF_EXECINSTR, SHF_WRITE, SHN_COMMON, SHT_NOBITS}
@@ -23,7 +24,6 @@ use Rattle.kl_model.specs.declared.object.Input.{Input}
 use Rattle.kl_model.specs.declared.kit.Kit.{Kit}
 use Rattle.kl_model.proofs.Each.{each-all, each-split}
 use Rattle.kl_sym.proofs.PieceAreas.{area_known}
-use Rattle.kl_sym.proofs.SimpleKits.{and_left}
 use Rattle.kl_sym.proofs.KeptPieces.{align_is, all_pieces, own}
 use Rattle.kl_sym.proofs.SoundTargets.{IsOccurrence, all_occur}
 

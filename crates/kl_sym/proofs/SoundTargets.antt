@@ -7,7 +7,7 @@ use Rattle.std.specs.Str.{bytes_eq}
 use Rattle.std.proofs.lemmas.Bool.{cases_Bool, eqb-false}
 use Rattle.std.proofs.lemmas.List.{get_or_default}
 use Rattle.std.proofs.lemmas.List.Elements.{All-append, All-cons, All-filter, All-head, All-map, All-tail}
-use Rattle.kl_base.proofs.Bools.{equal_bytes}
+use Rattle.kl_base.proofs.Bools.{and_left, and_right, equal_bytes, not_true, or_right}
 use Rattle.kl_elf.specs.declared.abi.TheConstants.{SHN_ABS, SHN_COMMON, STB_GLOBAL, STB_WEAK}
 use Rattle.kl_model.specs.Lists.{each_from}
 use Rattle.kl_model.specs.Kept.{input_at, is_kept, no_input}
@@ -26,7 +26,6 @@ use Rattle.kl_model.specs.declared.graph.Target.TheVariants.{Place, Edge}
 use Rattle.kl_model.proofs.Each.{all-only_if, each-all}
 use Rattle.kl_model.proofs.ListWords.{in_order-all}
 use Rattle.kl_sym.proofs.PieceNumbers.{kept-pieces}
-use Rattle.kl_sym.proofs.SimpleKits.{and_left, and_right, not_true, or_right}
 use Rattle.kl_sym.proofs.KeptPieces.{kept_known}
 use Rattle.kl_sym.proofs.KeptPieces.{number-lt}
 

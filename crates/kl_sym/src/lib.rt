@@ -8,7 +8,5 @@ mod lines;
 mod loader;
 mod names;
 mod pieces;
-mod simple;
 
 pub use graph::resolve;
-pub use simple::is_simple;

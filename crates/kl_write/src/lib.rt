@@ -16,6 +16,7 @@ mod window;
 
 pub use head::headers;
 pub use laws::image_carries;
+pub use numbers::SLOT_SIZE;
 pub use plan::{Plan, fill};
 pub use size::image_size;
 pub use slots::slot_addresses;

@@ -14,7 +14,7 @@ use crate::window::put_number;
 use kl_model::area::GOT;
 use kl_model::{Graph, Placement, width};
 
-/// The size of a slot, in bytes.
+/// The size of a slot of the global offset table, in bytes (psABI).
 pub const SLOT_SIZE: usize = 8;
 
 /// The width of the field of a relocation type, in bytes.

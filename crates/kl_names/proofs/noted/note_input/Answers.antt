@@ -19,14 +19,6 @@ index-place-requires c =
     let inside = next-inside kit inputs i n c.requires.input l other _ _ c.requires.numbered _ _ _ c.loop-number.invariant in
     search (rules, inside)
 
-pub symbol_name-name-requires : goal.symbol_name-name-requires
-symbol_name-name-requires c =
-    let inputs = c.args.inputs.now in let i = c.args.i in
-    let x = c.index-inputs-i.is ∙ get_or_default inputs i _ no_input c.requires.input in
-    let symbols : c.items-symbol-items.result.now ≡ (input_at inputs i).object.symbols = c.items-symbol-items.ensures ∙ ap (λ (x : Input). x.object.symbols) x in
-    let l = rw symbols at c.loop-number-test.true in
-    rw (symbols, x) ((c.requires.inputs.each_input i no_input c.requires.input).symbols.each_symbol c.loop-number.number no_symbol l).name.inside
-
 pub index-requires : goal.index-requires
 index-requires c =
     let kit = c.args.kit.now in let inputs = c.args.inputs.now in let i = c.args.i in let n = c.loop-number.number in

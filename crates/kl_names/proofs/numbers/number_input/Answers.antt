@@ -8,14 +8,6 @@ use Rattle.kl_names.proofs.Steps.{occurring_up_to, whole, more_one, more_none, n
 use Rattle.kl_names.proofs.numbers.number_input.Goals as goal
 use Rattle.kl_names.proofs.numbers.number_input.Goals.{then-symbol-ne-STB_LOCAL+in_ok-number+in_ok-push, else-symbol-ne-STB_LOCAL}
 
-pub symbol_name-requires : goal.symbol_name-requires
-symbol_name-requires c =
-    let inputs = c.args.inputs.now in let i = c.args.i in
-    let x = c.index-inputs-i.is ∙ get_or_default inputs i _ no_input c.requires.input in
-    let symbols : c.items-symbol-items.result.now ≡ (input_at inputs i).object.symbols = c.items-symbol-items.ensures ∙ ap (λ (x : Input). x.object.symbols) x in
-    let l = rw symbols at c.loop-symbol-test.true in
-    rw (symbols, x) ((c.requires.inputs.each_input i no_input c.requires.input).symbols.each_symbol c.loop-symbol.symbol-index no_symbol l).name.inside
-
 pub number-requires : goal.number-requires
 number-requires c =
     let inputs = c.args.inputs.now in let i = c.args.i in

@@ -23,17 +23,6 @@ loop-group-init c = record {
   sees = c.requires.before;
 }
 
-pub signature_of-requires : goal.signature_of-requires
-signature_of-requires c =
-    let inputs = c.args.inputs.now in let i = c.args.i in let k = c.loop-group.group-index in
-    let x = c.index-inputs-i.is ∙ get_or_default inputs i _ no_input c.requires.input in
-    let groups : c.items-group-items.result.now ≡ (input_at inputs i).object.groups = c.items-group-items.ensures ∙ ap (λ (x : Input). x.object.groups) x in
-    let l = rw groups at c.loop-group-test.true in
-    let group : c.group-item.result ≡ get_or (input_at inputs i).object.groups k c.group-item.result =
-    rw groups at (c.group-item.is ∙ get_or_default c.items-group-items.result.now k _ c.group-item.result c.loop-group-test.true) in
-    let inside = ((c.requires.inputs.each_input i no_input c.requires.input).groups k c.group-item.result l).signature.inside in
-    rw (x, group) inside
-
 pub mark-requires : goal.mark-requires
 mark-requires c =
     let inputs = c.args.inputs.now in let i = c.args.i in let k = c.loop-group.group-index in
