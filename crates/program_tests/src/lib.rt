@@ -2,6 +2,8 @@
 #![tactic(auto)]
 
 #[cfg(test)]
+mod author;
+#[cfg(test)]
 mod host;
 #[cfg(test)]
 mod runs;

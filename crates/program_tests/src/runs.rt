@@ -67,7 +67,7 @@ piece 0 1 0xffffffff81000000 0x0000000000000003
 end
 ";
 
-fn named(bytes: &[u8]) -> Result<Name, Fail> {
+pub(crate) fn named(bytes: &[u8]) -> Result<Name, Fail> {
     Ok(Name::from_bytes(bytes)?)
 }
 
@@ -76,7 +76,7 @@ fn object(alloc: Global) -> Result<Vec<u8>, Fail> {
 }
 
 /// The answer to words over a store, with what was written to the sink.
-fn answer(alloc: Global, words: &[&[u8]], store: &mut MemStore) -> Result<(Exit, VecSink), Fail> {
+pub(crate) fn answer(alloc: Global, words: &[&[u8]], store: &mut MemStore) -> Result<(Exit, VecSink), Fail> {
     let mut given = Vec::new(alloc);
     for word in words {
         given.push(Vec::from_slice(alloc, word)?)?;
