@@ -26,7 +26,7 @@ const FIRST: usize = 182;
 
 const SECOND: usize = 187;
 
-const BASE: u64 = 0xffff_ffff_8100_0000;
+pub(crate) const BASE: u64 = 0xffff_ffff_8100_0000;
 
 /// A kernel's kit whose entry is `start`.
 fn kernel(alloc: Global) -> Result<Kit, Fail>
@@ -92,7 +92,29 @@ fn drawn(inputs: &[Input]) -> usize
     count
 }
 
-/// Links a kernel whose drawn inputs stand in an order, with gaps, if there are some.
+/// Links a kit whose drawn inputs stand in an order, with gaps, if there are some.
+pub(crate) fn link_kit(
+    alloc: Global,
+    kit: &Kit,
+    inputs: &[Input],
+    gaps: Option<&Gaps>,
+    order: &[u32],
+) -> Result<Result<Linked, LinkFault>, Fail>
+    requires form { IsKit kit.now }
+    requires kernel { kit.now.kind ≡ Kernel }
+    requires fit { All IsFit inputs.now }
+    requires small { All IsSmall inputs.now }
+    requires places { AllPairs (λ x y. part_number x.place ≤ part_number y.place) inputs.now }
+    requires gaps { IfSome (option_copied gaps) AreGaps }
+    requires order { IsOrder (length order.now) order.now }
+{
+    if inputs.len() > 301 || drawn(inputs) != order.len() {
+        return Err(Fail::from("another number of inputs"));
+    }
+    Ok(link_kernel(alloc, kit, inputs, gaps, order))
+}
+
+/// Links a kernel of the default base with the entry `start`.
 fn link_with(
     alloc: Global,
     inputs: &[Input],
@@ -106,10 +128,7 @@ fn link_with(
     requires order { IsOrder (length order.now) order.now }
 {
     let kit = kernel(alloc)?;
-    if inputs.len() > 301 || drawn(inputs) != order.len() {
-        return Err(Fail::from("another number of inputs"));
-    }
-    Ok(link_kernel(alloc, &kit, inputs, gaps, order))
+    link_kit(alloc, &kit, inputs, gaps, order)
 }
 
 /// Links a kernel without gaps.
@@ -123,7 +142,7 @@ fn link(alloc: Global, inputs: &[Input], order: &[u32]) -> Result<Result<Linked,
 }
 
 /// The bytes of an image from a place on, as far as it has them.
-fn bytes_at(image: &[u8], at: usize, len: usize) -> &[u8] {
+pub(crate) fn bytes_at(image: &[u8], at: usize, len: usize) -> &[u8] {
     let rest = &image[image.len().min(at)..];
     &rest[..rest.len().min(len)]
 }

@@ -18,7 +18,7 @@ use std::alloc::Global;
 use std::test::Fail;
 
 /// The kit of a text with these lines behind those that each kernel's text has, but for the entry.
-fn kit(alloc: Global, lines: &[u8]) -> Result<Kit, Fail>
+pub(crate) fn kit(alloc: Global, lines: &[u8]) -> Result<Kit, Fail>
     ensures form { IfOk result IsKit }
     ensures kernel { IfOk result (λ kit. kit.kind ≡ Kernel) }
 {

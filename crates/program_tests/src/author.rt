@@ -285,7 +285,9 @@ fn author_store(alloc: Global) -> Result<MemStore, Fail> {
 
 /// How many lines of a text begin so.
 fn count(text: &[u8], start: &[u8]) -> usize {
-    text.split(|byte| *byte == b'\n').filter(|line| line.starts_with(start)).count()
+    text.split(|byte| *byte == b'\n')
+        .filter(|line| line.starts_with(start))
+        .count()
 }
 
 #[test]

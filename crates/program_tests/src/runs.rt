@@ -76,7 +76,11 @@ fn object(alloc: Global) -> Result<Vec<u8>, Fail> {
 }
 
 /// The answer to words over a store, with what was written to the sink.
-pub(crate) fn answer(alloc: Global, words: &[&[u8]], store: &mut MemStore) -> Result<(Exit, VecSink), Fail> {
+pub(crate) fn answer(
+    alloc: Global,
+    words: &[&[u8]],
+    store: &mut MemStore,
+) -> Result<(Exit, VecSink), Fail> {
     let mut given = Vec::new(alloc);
     for word in words {
         given.push(Vec::from_slice(alloc, word)?)?;
