@@ -4,3 +4,7 @@ pub mod ImageMade
 pub mod LinkFaults
 pub mod LinkSteps
 pub mod OneTargets
+pub mod RoomyValues
+pub mod RoomyFields
+pub mod NameFaults
+pub mod RoomyKits

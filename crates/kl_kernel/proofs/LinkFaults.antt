@@ -34,7 +34,7 @@ span_first n rest e h = go (nat_lt SPAN_LIMIT n) refl
         rw t (ap (option_map as_link_fault) some)
     go false t = let none : None ≡ Some e = rw t at h in cc
 
-span_within : (n : ℕ) (rest : List LinkFault) → n ≤ SPAN_LIMIT → span_faults n ++ rest ≡ rest
+pub span_within : (n : ℕ) (rest : List LinkFault) → n ≤ SPAN_LIMIT → span_faults n ++ rest ≡ rest
 span_within n rest h = rw (le-ltb SPAN_LIMIT n h) refl
 
 module _ (kit : Kit) (inputs : List Input) (gaps : Option Gaps) (order : List ℕ) where

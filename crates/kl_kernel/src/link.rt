@@ -7,7 +7,9 @@ ghost use Rattle.kl_model.specs.Faults.{link_fault};
 ghost use Rattle.kl_model.specs.Fit.{AreFit, IsKit};
 ghost use Rattle.kl_model.specs.Graphs.{graph};
 ghost use Rattle.kl_model.specs.Orders.{IsOrder, drawn_count};
+ghost use Rattle.kl_model.specs.Roomy.{IsRoomy};
 ghost use Rattle.kl_model.specs.declared.kit.KitKind.TheVariants.{Kernel};
+ghost use Rattle.kl_kernel.specs.RoomyLinks.{IsNoSpanOrRange};
 
 use crate::image::{kernel_image, made_areas};
 use kl_got::needs;
@@ -24,7 +26,8 @@ use std::alloc::Global;
 /// The first fault that stands: `Doubled`, where a name has two GLOBAL definitions; `EdgeClash`, where a name that the kit gives to an
 /// edge has a GLOBAL definition or a common; `NoEntry`, where the kit's entry has no definition; the first field by input, relocation
 /// section and entry that has one of `Kind`, `Removed` and `Undefined`; `Span`, where the image would span more memory than the limit;
-/// and the first field whose value is out of range, `Range`.
+/// and the first field whose value is out of range, `Range`. A roomy kit has neither `Span` nor `Range`, under any order and with any
+/// gaps.
 pub fn link_kernel(
     alloc: Global,
     kit: &Kit,
@@ -41,6 +44,7 @@ pub fn link_kernel(
     ensures fields { IfOk result (λ l. l.fields ≡ length (graph kit.now inputs.now).fields) }
     ensures sound { OnOk result (link_fault kit.now inputs.now (option_copied gaps.entry) order.now ≡ None) }
     ensures err { IfErr result (λ e. (e ≡ LinkFault.NoMemory) ⊎ (link_fault kit.now inputs.now (option_copied gaps.entry) order.now ≡ Some e)) }
+    ensures roomy { IfErr result (λ e. IsRoomy kit.now (graph kit.now inputs.now) → IsNoSpanOrRange e) }
 {
     let graph = resolve(alloc, kit, inputs)?;
     let needs = needs(alloc, kit, &graph)?;

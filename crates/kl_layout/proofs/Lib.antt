@@ -20,3 +20,5 @@ pub mod LineParts
 pub mod LaidOut
 pub mod OnlyPlaced
 pub mod PlacedStops
+pub mod RoomySpans
+pub mod PlacedWithin

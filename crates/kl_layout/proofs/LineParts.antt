@@ -141,7 +141,7 @@ gaps_room : (gaps : Option Gaps) → IfSome gaps AreGaps → room (flat_map (gap
 gaps_room None h = omega arith
 gaps_room (Some z) h = omega (arith, h.text.1, h.text.2, h.rodata.1, h.rodata.2, h.rwdata.1, h.rwdata.2, h.bss.1, h.bss.2)
 
-one_room : (n size align : ℕ) → room (made_parts n size align) ≤ size + align
+pub one_room : (n size align : ℕ) → room (made_parts n size align) ≤ size + align
 one_room n size align = go (not (size == 0))
   where
     go : (b : Bool) → room (only_if b (record { body = body.Area n; size = size; align = align })) ≤ size + align

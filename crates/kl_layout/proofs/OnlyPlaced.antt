@@ -100,7 +100,7 @@ pub each_count : {X Y : Type 0} (f : ℕ → X → Y) (n : ℕ) (xs : List X) �
 each_count f n [] = refl
 each_count f n (x ∷ xs) = ap suc (each_count f (suc n) xs)
 
-get_each : {X Y : Type 0} (f : ℕ → Y) (n : ℕ) (xs : List X) (k : ℕ) → k < length xs → slice_get (each_from n (λ m x. f m ∷ []) xs) k ≡ Some (f (n + k))
+pub get_each : {X Y : Type 0} (f : ℕ → Y) (n : ℕ) (xs : List X) (k : ℕ) → k < length xs → slice_get (each_from n (λ m x. f m ∷ []) xs) k ≡ Some (f (n + k))
 get_each f n [] k h = absurd (omega arith)
 get_each f n (x ∷ xs) zero h = let here : n + zero ≡ n = omega arith in rw here refl
 get_each f n (x ∷ xs) (suc k) h = let next : n + suc k ≡ suc n + k = omega arith in rw next (get_each f (suc n) xs k (omega (arith, h)))
@@ -120,7 +120,7 @@ stop_there x xs from c = go xs from c.0 c.1 c.2
         here r false t = (r.0, stop_further x.body from y ys t ∙ r.1)
 
 -- the area of a number among spreads that stand has its extent
-has_area : ℕ → Spread → Bool
+pub has_area : ℕ → Spread → Bool
 has_area n s = option_map_or (λ m. m == n) s.area false
 
 extent_found : (p : Placement) (at : Body → ℕ) (n from : ℕ) (ss : List Spread) (e : AreaAt) → AreasStand p at from ss → extent_of n from ss ≡ Some e → slice_get p.areas n ≡ Some e
@@ -143,7 +143,7 @@ extent_found p at n from (s ∷ ss) e a h =
         let here : Some (extent from s.parts) ≡ Some e = rw t at h in
         ap (slice_get p.areas) (sym same) ∙ (own ∙ (rw (stop, start_is at from s.parts a.0) here))
 
-any_extent : (n from : ℕ) (ss : List Spread) → list_any (has_area n) ss ≡ true → (e : AreaAt) × (extent_of n from ss ≡ Some e)
+pub any_extent : (n from : ℕ) (ss : List Spread) → list_any (has_area n) ss ≡ true → (e : AreaAt) × (extent_of n from ss ≡ Some e)
 unfolding has_area
 any_extent n from [] h = cc
 any_extent n from (s ∷ ss) h = go (λ f. any_extent n (reach from s.parts) ss f) (option_map_or (λ m. m == n) s.area false) refl
@@ -180,10 +180,10 @@ module _ (kit : Kit) (g : Graph) (gaps : Option Gaps) (order : List ℕ) (made :
       let next : k + suc j ≡ suc k + j = omega arith in
       rw next (list_any-append (has_area (15 + (suc k + j))) (only_if (same_class r.class c) _) _ ∙ or_right _ _ (run_there c (suc k) rs j d (omega (arith, l)) t))
 
-  abbrev Somewhere : ℕ → Type 0
+  abbrev pub Somewhere : ℕ → Type 0
   Somewhere n = (c : Class) × (list_any (has_area n) (spreads kit g gaps order made c) ≡ true)
 
-  run_somewhere : (j : ℕ) → j < length kit.runs → Somewhere (15 + j)
+  pub run_somewhere : (j : ℕ) → j < length kit.runs → Somewhere (15 + j)
   run_somewhere j l =
       let d = no_run in
       let c = (get_or kit.runs j d).class in
@@ -209,7 +209,7 @@ module _ (kit : Kit) (g : Graph) (gaps : Option Gaps) (order : List ℕ) (made :
       go Kernel = refl
       go Library = refl
 
-  low_somewhere : (n : ℕ) → 4 ≤ n → n < 15 → Somewhere n
+  pub low_somewhere : (n : ℕ) → 4 ≤ n → n < 15 → Somewhere n
   unfolding has_area
   low_somewhere zero h l = absurd (omega arith)
   low_somewhere (suc zero) h l = absurd (omega arith)

@@ -5,6 +5,7 @@ use Rattle.kl_layout.specs.Spans.{as_link_fault}
 use Rattle.kl_write.proofs.KernelValues.{few_slots}
 use Rattle.kl_kernel.proofs.LinkFaults.{first_of_names}
 use Rattle.kl_kernel.proofs.LinkSteps.{addresses, carries_kit, graph_order, laid_kernel, made_small, none_stands, range_is, sources, span_is}
+use Rattle.kl_kernel.proofs.RoomyKits.{roomy_err}
 use Rattle.kl_kernel.proofs.link.link_kernel.Goals as goal
 
 pub returns-in_err-graph-clause-err : goal.returns-in_err-graph-clause-err
@@ -77,3 +78,21 @@ returns-clause-sound c =
     none_stands c.args.kit.now c.args.inputs.now (option_copied c.args.gaps) c.args.order.now q.kit q.kernel q.inputs q.order c.in_ok-graph.graph c.in_ok-graph.ensures.ok c.in_ok-graph.ensures.graph
     c.made_areas.result (c.made_areas.ensures c.args.kit.now c.in_ok-graph.graph q.kernel (c.items-slots.ensures ∙ c.in_ok-needs.ensures.slots)) c.in_ok-placement.placement p.laid p.names p.placed p.small
     c.in_ok-graph.ensures.sound c.in_ok-image.ensures.sound
+
+pub returns-in_err-graph-clause-roomy : goal.returns-in_err-graph-clause-roomy
+returns-in_err-graph-clause-roomy c =
+    let q = c.requires in
+    roomy_err c.args.kit.now c.args.inputs.now (option_copied c.args.gaps) c.args.order.now q.kit q.kernel q.inputs q.gaps q.order _
+    (returns-in_err-graph-clause-err c)
+
+pub returns-in_err-placement-clause-roomy : goal.returns-in_err-placement-clause-roomy
+returns-in_err-placement-clause-roomy c =
+    let q = c.requires in
+    roomy_err c.args.kit.now c.args.inputs.now (option_copied c.args.gaps) c.args.order.now q.kit q.kernel q.inputs q.gaps q.order _
+    (returns-in_err-placement-clause-err c)
+
+pub returns-in_err-image-clause-roomy : goal.returns-in_err-image-clause-roomy
+returns-in_err-image-clause-roomy c =
+    let q = c.requires in
+    roomy_err c.args.kit.now c.args.inputs.now (option_copied c.args.gaps) c.args.order.now q.kit q.kernel q.inputs q.gaps q.order _
+    (returns-in_err-image-clause-err c)
