@@ -1,9 +1,8 @@
 // The fault of a link, by the names of files, sections and symbols.
-use crate::relocation::TypeName;
-use crate::shown::{SectionName, Shown};
 use crate::source::{KitText, Source, name_of_section, text_at};
 use kl_base::NoMemory;
 use kl_elf::abi::STT_SECTION;
+use kl_explain::{SectionName, Shown, TypeName};
 use kl_model::{FieldAt, Kit, LinkFault, RawField, ValueRange, relocation_type};
 use std::fmt::Write;
 

@@ -1,16 +1,14 @@
 // The message of a cause.
 ghost use Rattle.kl_store.specs.Calls.{Stays};
 
-use crate::kit_text::tell_kit_text;
 use crate::link::{inputs_of, tell_fault};
-use crate::object::tell_flaw;
-use crate::shown::Shown;
 use crate::source::{
     Archive, KitText, Source, find_archive, kit_order, read_kit_text, read_source,
 };
 use crate::usage::{is_of_system, tell_words};
 use kl_base::{INPUT_LIMIT, KIT_TEXT_LIMIT, Name, NoMemory};
 use kl_cli::Command;
+use kl_explain::{Shown, tell_flaw, tell_kit_text};
 use kl_jobs::{Cause, KitCause, ObjectCause};
 use kl_model::{KitInput, KitKind};
 use kl_rel::ReadFault;

@@ -1,6 +1,6 @@
 // Which of the words is wrong.
-use crate::shown::Shown;
-use kl_base::{FILE_LIMIT, Name, NameFault, NoMemory};
+use kl_base::{FILE_LIMIT, Name, NoMemory};
+use kl_explain::{Shown, tell_name};
 use std::fmt::Write;
 
 /// The commands that come later.
@@ -106,33 +106,6 @@ fn tell_folder(text: &mut String, folder: &[u8]) -> Result<(), NoMemory> {
         }
         Err(fault) => tell_name(text, folder, fault)?,
         Ok(_) => write!(text, "isn't taken")?,
-    }
-    Ok(())
-}
-
-/// What is wrong with a name, behind the word that names it.
-pub fn tell_name(text: &mut String, name: &[u8], fault: NameFault) -> Result<(), NoMemory> {
-    match fault {
-        NameFault::Empty => write!(text, "is empty")?,
-        NameFault::TooLong => write!(text, "is too long")?,
-        NameFault::NotAbsolute => {
-            write!(
-                text,
-                "doesn't begin with a slash, as in '/kit' for the folder kit"
-            )?;
-        }
-        NameFault::BadByte => {
-            write!(
-                text,
-                "has a byte that is no printable character of ASCII, or is a space"
-            )?;
-        }
-        NameFault::EmptyPart if name.ends_with(b"/") => write!(
-            text,
-            "ends with a slash: leave it out"
-        )?,
-        NameFault::EmptyPart => write!(text, "has two slashes together")?,
-        NameFault::DotPart => write!(text, "has a part '.' or '..': name it without")?,
     }
     Ok(())
 }

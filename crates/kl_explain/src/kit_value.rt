@@ -1,7 +1,7 @@
 // Which word of a line of a kit text isn't in its form.
 use crate::kit_line::Line;
+use crate::name::tell_name;
 use crate::shown::Shown;
-use crate::usage::tell_name;
 use kl_base::{
     BASE_LIMIT, FILE_LIMIT, KERNEL_BASE, Name, NoMemory, OUTPUT_LIMIT, PAGE, SCRATCH_SUFFIX,
     WORD_LIMIT,
