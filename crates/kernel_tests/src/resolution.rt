@@ -37,9 +37,12 @@ pub(crate) fn kit(alloc: Global, lines: &[u8]) -> Result<Kit, Fail>
 }
 
 /// The graph of a kit and its inputs.
-fn resolved_of(alloc: Global, kit: &Kit, inputs: &[Input]) -> Result<Result<Graph, LinkFault>, Fail>
+pub(crate) fn resolved_of(
+    alloc: Global,
+    kit: &Kit,
+    inputs: &[Input],
+) -> Result<Result<Graph, LinkFault>, Fail>
     requires form { IsKit kit.now }
-    requires kernel { kit.now.kind ≡ Kernel }
     requires fit { All IsFit inputs.now }
     requires small { All IsSmall inputs.now }
     requires places { AllPairs (λ x y. part_number x.place ≤ part_number y.place) inputs.now }
@@ -91,16 +94,16 @@ fn has_fault(
 }
 
 /// The place at an offset of a piece.
-fn place(piece: u32, offset: u64) -> Target {
+pub(crate) fn place(piece: u32, offset: u64) -> Target {
     Target::Place { piece, offset }
 }
 
-fn name(alloc: Global, bytes: &[u8]) -> Result<NameText, Fail> {
+pub(crate) fn name(alloc: Global, bytes: &[u8]) -> Result<NameText, Fail> {
     Ok(NameText::from_vec(Vec::from_slice(alloc, bytes)?))
 }
 
 /// The first field of a relocation section of an input.
-fn first_field(input: u32, section: u32) -> FieldAt {
+pub(crate) fn first_field(input: u32, section: u32) -> FieldAt {
     FieldAt {
         input,
         section,

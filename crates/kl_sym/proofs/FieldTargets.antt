@@ -1,13 +1,13 @@
 -- What a field gives by the table of its input and the leads of its symbols is what it gives by the kit.
-use Rattle.std.proofs.Common.{ℕ, ◌≡◌, ◌<◌, ◌∙◌, List, [], length, get_or, refl, ap, sym, Bool, true, false, cond, inl, inr}
-use Rattle.std.specs.Prelude.{◌==◌, pos, Option, Some, None, Result, Ok, Err}
+use Rattle.std.proofs.Common.{ℕ, ◌≡◌, ◌<◌, List, [], length, get_or, refl, Bool, true, false, cond, inl, inr}
+use Rattle.std.specs.Prelude.{◌==◌, pos, Option, Some, None, Ok, Err}
 use Rattle.std.proofs.lemmas.Bool.{cases_Bool}
 use Rattle.std.proofs.lemmas.List.{get_or-map}
 use Rattle.kl_elf.specs.declared.abi.TheConstants.{R_X86_64_NONE, SHN_ABS, STB_LOCAL, STB_WEAK}
 use Rattle.kl_model.specs.Texts.{text_at}
 use Rattle.kl_model.specs.Kept.{is_kept, input_at, no_symbol}
 use Rattle.kl_model.specs.Names.{definition}
-use Rattle.kl_model.specs.Graphs.{Missing, Undefined, target, target_or, kept_field}
+use Rattle.kl_model.specs.Graphs.{Undefined, target, target_or, kept_field}
 use Rattle.kl_model.specs.Faults.{field_faults}
 use Rattle.kl_model.specs.Dynamic.{is_importable, is_kept_field, is_replaceable, name_number}
 use Rattle.kl_model.specs.declared.object.Input.{Input}
@@ -18,7 +18,7 @@ use Rattle.kl_model.specs.declared.graph.Target.TheVariants.{Name, Zero}
 use Rattle.kl_model.specs.declared.link.LinkFault.{LinkFault}
 use Rattle.kl_names.specs.Tables.{piece_table}
 use Rattle.kl_names.proofs.TableAt.{table_at}
-use Rattle.kl_sym.specs.Leads.{lead_of, lead_of_name, leads, named_target, target_for}
+use Rattle.kl_sym.specs.Leads.{lead_of, lead_of_name, leads, target_for}
 use Rattle.kl_sym.specs.Targets.{faults_by, field_by, symbol_in, target_by, target_of_lead}
 use Rattle.kl_sym.specs.declared.leads.Lead.TheVariants as lead
 

@@ -1,5 +1,5 @@
 -- The names of a kernel's kit lead to their definitions.
-use Rattle.std.proofs.Common.{ℕ, ◌≡◌, ◌∙◌, List, [], ◌∷◌, map, refl, ap, false}
+use Rattle.std.proofs.Common.{ℕ, ◌≡◌, List, [], ◌∷◌, map, refl, false}
 use Rattle.std.specs.Prelude.{Option, Some, None}
 use Rattle.kl_model.specs.Names.{definition}
 use Rattle.kl_model.specs.Dynamic.{name_number}

@@ -2,7 +2,7 @@
 use Rattle.std.proofs.Common.{ℕ, zero, suc, ◌≡◌, ◌<◌, List, [], ◌∷◌, length, arith, true, false}
 use Rattle.std.specs.Prelude.{slice_get}
 use Rattle.std.specs.Option.{option_map_or}
-use Rattle.kl_model.specs.Areas.{Area, areas, may_have_edge}
+use Rattle.kl_model.specs.Areas.{Area, areas}
 use Rattle.kl_model.specs.Fit.{IsKit}
 use Rattle.kl_model.specs.declared.kit.Kit.{Kit}
 use Rattle.kl_sym.proofs.SoundTargets.{EdgesKnown}

@@ -1,5 +1,5 @@
 -- One symbol more, of those that aren't LOCAL: its number leads to its name.
-use Rattle.std.proofs.Common.{ℕ, ◌≡◌, ◌+◌, ◌<◌, ◌∙◌, List, [], ◌∷◌, ◌++◌, length, get_or, map, length-append, refl, ap, arith, false}
+use Rattle.std.proofs.Common.{ℕ, ◌≡◌, ◌+◌, ◌<◌, ◌∙◌, List, ◌∷◌, ◌++◌, length, get_or, map, length-append, refl, ap, false}
 use Rattle.std.specs.Prelude.{Some, slice_get, ◌==◌}
 use Rattle.kl_elf.specs.declared.abi.TheConstants.{STB_LOCAL}
 use Rattle.kl_model.specs.Texts.{text_at}

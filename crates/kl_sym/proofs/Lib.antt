@@ -11,3 +11,7 @@ pub mod SoundTargets
 pub mod SoundPieces
 pub mod SoundFields
 pub mod RunSteps
+pub mod SortedNames
+pub mod UsedSteps
+pub mod ShownLaws
+pub mod DynamicSteps

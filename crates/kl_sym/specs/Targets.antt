@@ -1,5 +1,5 @@
 -- Where a field leads, and its faults, by the table of its input and the leads of its symbols. For the contracts inside this crate alone.
-use Rattle.std.specs.Prelude.{ℕ, if◌then◌else◌, not, ◌==◌, List, [], ◌∷◌, ◌++◌, slice_index_or, codes, Option, Some, None, Result, Ok, Err}
+use Rattle.std.specs.Prelude.{ℕ, if◌then◌else◌, not, ◌==◌, List, [], ◌++◌, slice_index_or, codes, Option, Some, None, Result, Ok, Err}
 use Rattle.std.specs.Result.{result_unwrap_or}
 use Rattle.std.specs.Str.{bytes_eq}
 use Rattle.kl_elf.specs.declared.abi.TheConstants.{R_X86_64_NONE}

@@ -1,4 +1,4 @@
-use Rattle.std.proofs.Common.{◌≡◌, ◌+◌, ◌∙◌, ◌++◌, ◌∷◌, [], ℕ, get_or, take, refl, ap, sym, inl, inr, append_assoc, length}
+use Rattle.std.proofs.Common.{◌≡◌, ◌+◌, ◌∙◌, ◌++◌, ◌∷◌, [], ℕ, get_or, take, refl, ap, sym, inl, inr, append_assoc}
 use Rattle.std.specs.Prelude.{option_to_list}
 use Rattle.std.proofs.lemmas.List.{get_or_default, append-nil, length-map}
 use Rattle.std.proofs.lemmas.Result.{err_from_is_err_and}

@@ -1,8 +1,6 @@
-use Rattle.std.proofs.Common.{◌≡◌, ◌∙◌, List, [], ◌∷◌, map, refl, sym, inl, inr}
+use Rattle.std.proofs.Common.{◌∙◌, refl, inl, inr}
 use Rattle.std.proofs.lemmas.Result.{err_from_is_err_and}
 use Rattle.kl_model.specs.Graphs.{graph}
-use Rattle.kl_model.proofs.Kernels.{no_dynamic_names}
-use Rattle.kl_sym.proofs.KernelNames.{kernel_targets}
 use Rattle.kl_sym.proofs.KitEdges.{edges_known}
 use Rattle.kl_sym.proofs.ResolveFaults.{first-field, first-name, no-fault}
 use Rattle.kl_sym.proofs.SoundFields.{graph_sound}
@@ -14,8 +12,7 @@ returns-in_err-names-clause-err c =
     rw (r.1, r.2) (elim c.in_err-names.ensures.err [ inl a ↦ inl a | inr e ↦ inr (first-name c.args.kit.now c.args.inputs.now _ e) ])
 
 pub fields-requires-clause-targets : goal.fields-requires-clause-targets
-fields-requires-clause-targets c =
-    c.deref-4.ensures.value ∙ (c.in_ok-names.ensures.definitions ∙ sym (kernel_targets c.args.kit.now c.requires.kernel c.args.inputs.now c.in_ok-names.names.numbering.index))
+fields-requires-clause-targets c = c.deref-4.ensures.value ∙ c.in_ok-names.ensures.targets
 
 pub returns-in_err-fields-clause-err : goal.returns-in_err-fields-clause-err
 returns-in_err-fields-clause-err c =
@@ -28,17 +25,16 @@ returns-in_err-fields-clause-err c =
 pub returns-clause-ok : goal.returns-clause-ok
 unfolding graph
 returns-clause-ok c =
-    let names = no_dynamic_names c.args.kit.now c.requires.kernel c.args.inputs.now in
     rw (
-      names,
       c.from_vec.ensures,
       c.from_vec-2.ensures,
       c.from_vec-3.ensures,
-      c.new.ensures,
+      c.from_vec-4.ensures,
       c.in_ok-extend_from_slice.ensures.items,
       c.deref-5.ensures.value,
       c.in_ok-pieced.ensures.pieces,
       c.in_ok-names.ensures.commons,
+      c.in_ok-names.ensures.dynamic,
       c.in_ok-fields.ensures.ok,
       c.in_ok-names.ensures.entry,
       c.in_ok-parts_of.ensures,

@@ -1,4 +1,4 @@
-use Rattle.std.proofs.Common.{◌≡◌, ◌+◌, ◌∙◌, ◌++◌, ◌∷◌, [], length, get_or, map, take, refl, ap, sym, eq-eqb, ne_eqb, arith, rules}
+use Rattle.std.proofs.Common.{◌≡◌, ◌∙◌, length, get_or, refl, ap, sym, eq-eqb, ne_eqb, arith, rules}
 use Rattle.std.proofs.lemmas.List.{get_or_default, map_more}
 use Rattle.kl_elf.specs.declared.abi.TheConstants.{STB_LOCAL}
 use Rattle.kl_model.specs.Kept.{input_at, no_input, no_symbol}

@@ -1,0 +1,5 @@
+# The address of a function in read-only data.
+        .text
+here:   ret
+        .section .rodata,"a",@progbits
+        .quad here
