@@ -1,5 +1,5 @@
 -- What is known of an allocated section of a file whose sections have no flaw.
-use Rattle.std.proofs.Common.{ℕ, ◌≡◌, ◌+◌, ◌-◌, ◌<◌, ◌≤◌, ◌^◌, true, List, refl, arith}
+use Rattle.std.proofs.Common.{ℕ, ◌≡◌, ◌+◌, ◌-◌, ◌<◌, ◌≤◌, true, List, refl, arith}
 use Rattle.std.specs.Prelude.{None, unwrap_or}
 use Rattle.std.proofs.lemmas.Bool.{ltb-false}
 use Rattle.kl_rel.specs.Flaws.{first_of}

@@ -2,7 +2,8 @@
 use Rattle.std.proofs.Common.{ℕ, zero, ◌≡◌, ◌+◌, ◌-◌, ◌/◌, ◌<◌, ◌≤◌, ◌∙◌, Bool, true, false, ◌&&◌, ◌||◌, eqb-true, length, List, [], ◌∷◌, ◌++◌, refl, sym, arith, append_assoc}
 use Rattle.std.specs.Prelude.{map, flat_map, nat_le, Option, Some, None}
 use Rattle.std.specs.List.{range_with_len}
-use Rattle.std.proofs.lemmas.List.{append-nil}
+use Rattle.std.proofs.lemmas.List.{append-nil, length-append}
+use Rattle.std.proofs.lemmas.List.FromFn.{length-map-range_with_len}
 use Rattle.std.specs.Option.{option_or}
 use Rattle.std.proofs.lemmas.Bool.{leb-false}
 use Rattle.kl_rel.specs.Flaws.{first_of}
@@ -12,7 +13,7 @@ use Rattle.kl_rel.specs.Relocations.{field_of, fields_of, fields_before, fields_
 use Rattle.kl_rel.specs.declared.fault.ReadFault.{ReadFault}
 use Rattle.kl_rel.specs.declared.fault.ReadKind.TheVariants.{RelaLink}
 use Rattle.kl_rel.proofs.Places.{none_in, not_stands, section_of_type}
-use Rattle.kl_rel.proofs.Passes.{map-more, flat_map-more}
+use Rattle.kl_rel.proofs.Passes.{map-more, flat_map-more, upto, upto-next}
 use Rattle.kl_elf.specs.declared.records.TheConstants.Rela as rela
 
 -- one entry more
@@ -89,3 +90,19 @@ target_allocated b n is = right (is_rela (section b n)) (is_allocated (section b
     right : (x y : Bool) → (x && y) ≡ true → y ≡ true
     right true y e = e
     right false y e = cc
+
+-- how many a section has, and it with those after it
+pub count_read : (b : List ℕ) (n : ℕ) → is_read b (section b n) ≡ true → length (fields_of b n) ≡ (section b n).size / rela.SIZE
+unfolding fields_of
+count_read b n is = rw is (length-map-range_with_len (field_of b n) 0 ((section b n).size / rela.SIZE))
+
+pub count_none : (b : List ℕ) (n : ℕ) → is_read b (section b n) ≡ false → length (fields_of b n) ≡ 0
+unfolding fields_of
+count_none b n is = rw is refl
+
+pub count_next : (b : List ℕ) (n c : ℕ) → n < c → length (flat_map (fields_of b) (upto n c)) ≡ length (fields_of b n) + length (flat_map (fields_of b) (upto (n + 1) c))
+count_next b n c h = rw (upto-next n c h) (length-append (fields_of b n) (flat_map (fields_of b) (upto (n + 1) c)))
+
+pub count_all : (b : List ℕ) → length (flat_map (fields_of b) (upto 1 (head b).shnum)) ≡ length (fields_in b)
+unfolding fields_in
+count_all b = refl

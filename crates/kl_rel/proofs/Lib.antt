@@ -13,5 +13,10 @@ pub mod Powers
 pub mod FitSections
 pub mod FitSymbols
 pub mod FitFields
+pub mod Pairs
+pub mod Overlaps
+pub mod Scans
+pub mod Stamps
+pub mod Limits
 pub mod Fits
 mod Examples

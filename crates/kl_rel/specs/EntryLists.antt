@@ -3,7 +3,7 @@ use Rattle.std.specs.Prelude.{ℕ, ◌≡◌, true, List}
 use Rattle.kl_rel.specs.Headers.{section}
 use Rattle.kl_rel.specs.SymbolTables.{symbol_count}
 use Rattle.kl_rel.specs.Relocations.{is_read}
-use Rattle.kl_rel.specs.declared.relocation.Entries.{Entries}
+use Rattle.kl_rel.specs.declared.entry.Entries.{Entries}
 
 pub record AreEntries (b : List ℕ) (e : Entries) : Type 0 where
   pub header : e.header ≡ section b e.number

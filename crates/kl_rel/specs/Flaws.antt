@@ -1,5 +1,5 @@
 -- Flaws, and the first of several.
-use Rattle.std.specs.Prelude.{ℕ, ◌≡◌, Bool, cond, if◌then◌else◌, List, [], ◌∷◌, Option, Some, None}
+use Rattle.std.specs.Prelude.{ℕ, ◌≡◌, Bool, if◌then◌else◌, List, [], ◌∷◌, Option, Some, None}
 use Rattle.std.specs.Option.{option_or}
 use Rattle.kl_rel.specs.declared.fault.ReadKind.{ReadKind}
 use Rattle.kl_rel.specs.declared.fault.ReadFault.{ReadFault}

@@ -4,8 +4,10 @@ pub mod StringTables
 pub mod Sections
 pub mod SymbolTables
 pub mod Relocations
-pub mod FieldLists
 pub mod EntryLists
+pub mod FieldScans
+pub mod Chains
 pub mod SectionGroups
 pub mod Grouped
 pub mod Objects
+pub mod Limits

@@ -1,5 +1,5 @@
 -- The sections of an object (gABI, "Section Attribute Flags" and "Section Types").
-use Rattle.std.specs.Prelude.{ℕ, ◌+◌, ◌^◌, Bool, cond, if◌then◌else◌, not, ◌&&◌, ◌||◌, ◌==◌, nat_lt, nat_le, List, [], ◌∷◌, map, codes, Option, Some, None, unwrap_or, is_none}
+use Rattle.std.specs.Prelude.{ℕ, ◌+◌, Bool, if◌then◌else◌, not, ◌&&◌, ◌||◌, ◌==◌, nat_lt, nat_le, List, [], ◌∷◌, map, codes, Option, Some, None, unwrap_or, is_none}
 use Rattle.std.specs.Int.{is_power_of_two}
 use Rattle.std.specs.List.{starts_with}
 use Rattle.kl_base.specs.declared.class.Range.{Range}

@@ -1,5 +1,5 @@
 // The words of faults.
-use crate::{Feature, ReadError, ReadFault, ReadKind};
+use crate::{Feature, LimitError, ReadError, ReadFault, ReadKind};
 use std::fmt;
 
 impl fmt::Display for Feature {
@@ -56,6 +56,16 @@ impl fmt::Display for ReadError {
         match self {
             ReadError::Flaw(fault) => write!(f, "{fault}"),
             ReadError::NoMemory => f.write_str("out of memory"),
+        }
+    }
+}
+
+impl fmt::Display for LimitError {
+    fn fmt<W: fmt::Write>(&self, f: &mut fmt::Formatter<W>) -> fmt::Result {
+        match self {
+            LimitError::Flaw(fault) => write!(f, "{fault}"),
+            LimitError::TooManyFields => f.write_str("it has too many relocation entries"),
+            LimitError::NoMemory => f.write_str("out of memory"),
         }
     }
 }

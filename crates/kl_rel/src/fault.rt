@@ -82,6 +82,40 @@ pub enum ReadError {
     NoMemory,
 }
 
+/// Why an object isn't read within a limit.
+#[derive(Clone, Copy, PartialEq, Eq, Debug)]
+pub enum LimitError {
+    /// The first flaw of its bytes.
+    Flaw(ReadFault),
+    /// It has no flaw, but more relocation entries than the limit.
+    TooManyFields,
+    /// Memory ran out.
+    NoMemory,
+}
+
+impl From<ReadError> for LimitError {
+    ghost use Rattle.kl_rel.specs.Limits.{limit_error};
+
+    ghost from_gives = { λ error e. e ≡ limit_error error };
+
+    fn from(error: ReadError) -> Self {
+        match error {
+            ReadError::Flaw(fault) => LimitError::Flaw(fault),
+            ReadError::NoMemory => LimitError::NoMemory,
+        }
+    }
+}
+
+impl From<ReadFault> for LimitError {
+    ghost use Rattle.kl_rel.specs.declared.fault.LimitError.{LimitError};
+
+    ghost from_gives = { λ fault e. e ≡ LimitError.Flaw fault };
+
+    fn from(fault: ReadFault) -> Self {
+        LimitError::Flaw(fault)
+    }
+}
+
 impl From<ReadFault> for ReadError {
     ghost use Rattle.kl_rel.specs.declared.fault.ReadError.{ReadError};
 

@@ -6,22 +6,26 @@ ghost use Rattle.kl_model.specs.Fit.{IsFit};
 ghost use Rattle.kl_model.specs.declared.object.Input.{Input};
 ghost use Rattle.kl_rel.specs.Flaws.{IsAnswer};
 ghost use Rattle.kl_rel.specs.Objects.{flaw, object};
+ghost use Rattle.kl_rel.specs.Limits.{IsAnswerWithin};
 ghost use Rattle.kl_base.specs.declared.limits.TheConstants.{INPUT_LIMIT};
 
 mod display;
+mod entry;
 mod fault;
-mod field;
+mod first_flaw;
 mod group;
 mod relocation;
+mod scan;
 mod section;
 mod string;
 mod symbol;
 mod table;
 
-pub use fault::{Feature, ReadError, ReadFault, ReadKind};
+pub use fault::{Feature, LimitError, ReadError, ReadFault, ReadKind};
+use first_flaw::check_relocations;
 use group::read_groups;
 use kl_model::Object;
-use relocation::read_relocations;
+use relocation::{entry_count, read_relocations};
 use section::read_sections;
 use std::alloc::Global;
 use symbol::{read_symbol_table, read_symbols};
@@ -52,4 +56,46 @@ pub fn read_object(alloc: Global, bytes: &[u8]) -> Result<Object, ReadError>
         fields,
         groups,
     })
+}
+
+/// Reads an object of at most `limit` relocation entries. Of one that has more only the flaws are looked for, which takes memory
+/// by the length of the file: its sections may name one range of it many times.
+///
+/// # Errors
+///
+/// The first flaw of the bytes, with its place in the file; too many entries, where there is none; or want of memory.
+pub fn read_object_within(alloc: Global, bytes: &[u8], limit: u64) -> Result<Object, LimitError>
+    requires { length bytes.now ≤ INPUT_LIMIT }
+    ensures object { IfOk result (λ o. o ≡ object bytes.now) }
+    ensures sound { OnOk result (flaw bytes.now ≡ None) }
+    ensures few { OnOk result (length (object bytes.now).fields ≤ limit) }
+    ensures refused { IfErr result (IsAnswerWithin (flaw bytes.now) (length (object bytes.now).fields) limit) }
+    ensures fit { IfOk result (λ o. (x : Input) → x.bytes ≡ bytes.now → x.object ≡ o → IsFit x) }
+{
+    let table = read_table(bytes)?;
+    if entry_count(bytes, &table, limit).is_some() {
+        return Ok(read_object(alloc, bytes)?);
+    }
+    check_object(alloc, bytes)?;
+    Err(LimitError::TooManyFields)
+}
+
+/// Looks for the flaws of an object.
+///
+/// # Errors
+///
+/// The first flaw of the bytes, or want of memory.
+fn check_object(alloc: Global, bytes: &[u8]) -> Result<(), ReadError>
+    requires { length bytes.now ≤ INPUT_LIMIT }
+    ensures sound { OnOk result (flaw bytes.now ≡ None) }
+    ensures flaw { IfErr result (IsAnswer (flaw bytes.now)) }
+{
+    let table = read_table(bytes)?;
+    check_ranges(bytes, &table)?;
+    let sections = read_sections(alloc, bytes, &table)?;
+    let symbol_table = read_symbol_table(bytes, &table)?;
+    let symbols = read_symbols(alloc, bytes, &table, &symbol_table)?;
+    check_relocations(alloc, bytes, &table, &symbol_table)?;
+    read_groups(alloc, bytes, &table, sections.items(), symbols.items())?;
+    Ok(())
 }

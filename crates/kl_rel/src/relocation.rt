@@ -1,25 +1,26 @@
 // The relocation entries of an object.
-ghost use Rattle.std.specs.Prelude.{◌≡◌, ◌+◌, ◌*◌, ◌/◌, ◌≤◌, ◌<◌, ◌^◌, [], ◌∷◌, ◌++◌, ◌&&◌, nat_le, length, IfOk, OnOk, IfErr, None};
+ghost use Rattle.std.specs.Prelude.{◌≡◌, ◌≤◌, ◌<◌, ◌^◌, [], ◌&&◌, nat_le, if◌then◌else◌, length, AllPairs, IfOk, OnOk, IfErr, None, Some};
 ghost use Rattle.std.specs.Result.{result_err};
-ghost use Rattle.kl_elf.specs.Records.{rela_at};
-ghost use Rattle.kl_model.specs.Relocations.{width};
 ghost use Rattle.kl_rel.specs.Flaws.{IsAnswer, first_of};
-ghost use Rattle.kl_rel.specs.Headers.{IsTable, ranges_flaw, section, header_place};
+ghost use Rattle.kl_rel.specs.Headers.{IsTable, ranges_flaw};
 ghost use Rattle.kl_rel.specs.Sections.{is_allocated, sections_flaw};
-ghost use Rattle.kl_rel.specs.SymbolTables.{IsSymbolTable, symbol_count};
-ghost use Rattle.kl_rel.specs.FieldLists.{IsApart};
-ghost use Rattle.kl_rel.specs.EntryLists.{AreEntries};
-ghost use Rattle.kl_rel.specs.Relocations.{relocations_flaw, fields_in, rela_checks, rela_flaw_of, is_rela, is_read, fields_of, fields_before, entries_flaw, entry_checks, listed_field, shares_byte};
-ghost use Rattle.kl_base.specs.declared.limits.TheConstants.{INPUT_LIMIT, SIZE_LIMIT};
+ghost use Rattle.kl_rel.specs.SymbolTables.{IsSymbolTable};
+ghost use Rattle.kl_model.specs.Fit.{ShareNoByte};
+ghost use Rattle.kl_rel.specs.FieldScans.{IsScan, TellsFlaw};
+ghost use Rattle.kl_rel.specs.Relocations.{relocations_flaw, fields_in, rela_checks, is_rela};
+ghost use Rattle.kl_base.specs.declared.limits.TheConstants.{INPUT_LIMIT};
 
+use crate::entry::Entries;
 use crate::fault::fault_at;
-use crate::field::FieldList;
+use crate::first_flaw::{check_relocations, first_flaw};
+use crate::scan::FieldScan;
 use crate::symbol::SymbolTable;
 use crate::table::Table;
 use crate::{ReadError, ReadFault, ReadKind};
+use kl_base::NoMemory;
 use kl_elf::abi::{SHF_ALLOC, SHT_NOBITS, SHT_REL, SHT_RELA, SHT_SYMTAB};
 use kl_elf::{Rela, Shdr};
-use kl_model::{RawField, RawFields, width};
+use kl_model::RawFields;
 use std::alloc::Global;
 
 /// Reads the entries of the relocation sections of allocated sections.
@@ -42,7 +43,94 @@ pub(crate) fn read_relocations(
     ensures sound { OnOk result (relocations_flaw bytes.now ≡ None) }
     ensures flaw { IfErr result (IsAnswer (relocations_flaw bytes.now)) }
 {
-    let mut fields = FieldList::new(alloc, table.count)?;
+    let count = entry_count(bytes, table, bytes.len() as u64 / Rela::SIZE as u64);
+    if count.is_none() {
+        // Sections share ranges of the file: their fields are kept only where there is no flaw.
+        check_relocations(alloc, bytes, table, symbol_table)?;
+    }
+    let mut scan = FieldScan::new(alloc, table.count, count.unwrap_or(0))?;
+    let plain = plain_flaw(bytes, table, symbol_table, &mut scan)?;
+    let found = if scan.has_overlap(alloc)? {
+        first_flaw(alloc, bytes, table, symbol_table)?
+    } else {
+        plain
+    };
+    match found {
+        Some(fault) => Err(fault.into()),
+        None => Ok(scan.into_fields()),
+    }
+}
+
+/// The number of entries that are read, as the headers tell, where it is at most `limit`.
+pub(crate) fn entry_count(bytes: &[u8], table: &Table, limit: u64) -> Option<u64>
+    requires { IsTable bytes.now table.now }
+    ensures { result ≡ (if nat_le (length (fields_in bytes.now)) limit then Some (length (fields_in bytes.now)) else None) }
+{
+    let mut count = 0;
+    for number in 1..table.count {
+        let header = table.section(bytes, number);
+        if is_read(&header, &table.section(bytes, header.info)) {
+            let more = header.size / Rela::SIZE as u64;
+            if more > limit - count {
+                return None;
+            }
+            count += more;
+        }
+    }
+    Some(count)
+}
+
+/// The first flaw that no two fields have a part in. Adds the fields up to it to none.
+fn plain_flaw(
+    bytes: &[u8],
+    table: &Table,
+    symbol_table: &SymbolTable,
+    scan: &mut FieldScan,
+) -> Result<Option<ReadFault>, NoMemory>
+    requires long { length bytes.now ≤ INPUT_LIMIT }
+    requires table { IsTable bytes.now table.now }
+    requires symbol_table { IsSymbolTable bytes.now symbol_table.now }
+    requires ranges { ranges_flaw bytes.now ≡ None }
+    requires sections { sections_flaw bytes.now ≡ None }
+    requires scan { IsScan scan.old }
+    requires empty { scan.old.fields.items ≡ [] }
+    requires count { length scan.old.ends.items ≡ table.now.count }
+    ensures scan { IsScan scan.new }
+    ensures flaw { IfOk result (λ found. AllPairs ShareNoByte scan.new.fields.items → found ≡ relocations_flaw bytes.now) }
+    ensures fields { OnOk result (relocations_flaw bytes.now ≡ None → scan.new.fields.items ≡ fields_in bytes.now) }
+{
+    match scan_sections(bytes, table, symbol_table, scan) {
+        Ok(()) => Ok(None),
+        Err(ReadError::Flaw(fault)) => Ok(Some(fault)),
+        Err(ReadError::NoMemory) => Err(NoMemory),
+    }
+}
+
+/// Adds the fields of the relocation sections of allocated sections to none, up to the first flaw that no two fields have a part in.
+///
+/// # Errors
+///
+/// This flaw, or want of memory. It is the first of all flaws where no two of the fields share a byte.
+fn scan_sections(
+    bytes: &[u8],
+    table: &Table,
+    symbol_table: &SymbolTable,
+    scan: &mut FieldScan,
+) -> Result<(), ReadError>
+    requires long { length bytes.now ≤ INPUT_LIMIT }
+    requires table { IsTable bytes.now table.now }
+    requires symbol_table { IsSymbolTable bytes.now symbol_table.now }
+    requires ranges { ranges_flaw bytes.now ≡ None }
+    requires sections { sections_flaw bytes.now ≡ None }
+    requires scan { IsScan scan.old }
+    requires empty { scan.old.fields.items ≡ [] }
+    requires count { length scan.old.ends.items ≡ table.now.count }
+    ensures fields { OnOk result (scan.new.fields.items ≡ fields_in bytes.now) }
+    ensures scan { IsScan scan.new }
+    ensures sound { OnOk result (AllPairs ShareNoByte scan.new.fields.items → relocations_flaw bytes.now ≡ None) }
+    ensures flaw { IfErr result (λ e. AllPairs ShareNoByte scan.new.fields.items → IsAnswer (relocations_flaw bytes.now) e) }
+    ensures told { IfErr result (TellsFlaw (relocations_flaw bytes.now)) }
+{
     for number in 1..table.count {
         let header = table.section(bytes, number);
         check_form(bytes, table, table.place_of(number), &header)?;
@@ -54,15 +142,20 @@ pub(crate) fn read_relocations(
                 symbols: symbol_table.count,
                 size: target.size,
             };
-            entries.read(alloc, bytes, &mut fields)?;
+            entries.scan(bytes, scan)?;
         }
     }
-    Ok(fields.into_fields())
+    Ok(())
 }
 
 /// Checks the form of a section, where it is a relocation section; its header stands at `place`.
 #[tactic(auto, unfolding(crate::specs::Relocations::rela_checks))]
-fn check_form(bytes: &[u8], table: &Table, place: u64, header: &Shdr) -> Result<(), ReadFault>
+pub(crate) fn check_form(
+    bytes: &[u8],
+    table: &Table,
+    place: u64,
+    header: &Shdr,
+) -> Result<(), ReadFault>
     requires table { IsTable bytes.now table.now }
     requires place { place < 2 ^ 63 }
     ensures { result_err result ≡ first_of (rela_checks bytes.now place header.now) }
@@ -99,105 +192,8 @@ fn is_allocated(header: &Shdr) -> bool
 }
 
 /// Whether the entries of a section are read, which changes this one.
-fn is_read(header: &Shdr, target: &Shdr) -> bool
+pub(crate) fn is_read(header: &Shdr, target: &Shdr) -> bool
     ensures { result ≡ (is_rela header.now && is_allocated target.now) }
 {
     header.kind == SHT_RELA && is_allocated(target)
-}
-
-/// The entries of a relocation section.
-#[derive(Clone, Copy)]
-struct Entries {
-    /// The number of the section, and its header.
-    number: u32,
-    header: Shdr,
-    /// The number of symbols.
-    symbols: u64,
-    /// The size of the section that they change, in bytes.
-    size: u64,
-}
-
-impl Entries {
-    /// Reads the entries, and adds their fields to those of earlier sections.
-    fn read(&self, alloc: Global, bytes: &[u8], fields: &mut FieldList) -> Result<(), ReadError>
-        requires long { length bytes.now ≤ INPUT_LIMIT }
-        requires entries { AreEntries bytes.now self.now }
-        requires lies { self.now.header.offset + self.now.header.size ≤ length bytes.now }
-        requires size { self.now.size ≤ SIZE_LIMIT }
-        requires apart { IsApart fields.old }
-        requires section { self.now.header.info < length fields.old.ends.items }
-        requires before { fields.old.fields ≡ fields_before bytes.now self.now.number 0 }
-        ensures fields { OnOk result (fields.new.fields ≡ fields_before bytes.now self.now.number (self.now.header.size / Rela.SIZE)) }
-        ensures apart { OnOk result (IsApart fields.new) }
-        ensures count { length fields.new.ends.items ≡ length fields.old.ends.items }
-        ensures sound { OnOk result (entries_flaw bytes.now self.now.number ≡ None) }
-        ensures flaw { IfErr result (IsAnswer (entries_flaw bytes.now self.now.number)) }
-    {
-        for index in 0..self.header.size / Rela::SIZE as u64 {
-            let place = self.header.offset + Rela::SIZE as u64 * index;
-            let field = self.field(bytes, index);
-            self.add(alloc, place, &field, fields)?;
-        }
-        Ok(())
-    }
-
-    /// The field of an entry.
-    fn field(&self, bytes: &[u8], index: u64) -> RawField
-        requires long { length bytes.now ≤ INPUT_LIMIT }
-        requires place { self.now.header.offset + Rela.SIZE * index + Rela.SIZE ≤ length bytes.now }
-        ensures { result ≡ listed_field self.now.number index self.now.header.info (rela_at bytes.now (self.now.header.offset + Rela.SIZE * index)) }
-    {
-        let place = self.header.offset + Rela::SIZE as u64 * index;
-        let entry = Rela::read(bytes, place as usize);
-        RawField {
-            rela: self.number,
-            index: index as u32,
-            section: self.header.info,
-            offset: entry.offset,
-            kind: (entry.info % (1 << 32)) as u32,
-            symbol: (entry.info / (1 << 32)) as u32,
-            addend: entry.addend,
-        }
-    }
-
-    /// Adds the field of the entry at `place`.
-    #[tactic(auto, unfolding(crate::specs::Relocations::entry_checks))]
-    fn add(
-        &self,
-        alloc: Global,
-        place: u64,
-        field: &RawField,
-        fields: &mut FieldList,
-    ) -> Result<(), ReadError>
-        requires place { place < 2 ^ 63 }
-        requires size { self.now.size ≤ SIZE_LIMIT }
-        requires apart { IsApart fields.old }
-        requires section { field.now.section < length fields.old.ends.items }
-        ensures fields { OnOk result (fields.new.fields ≡ fields.old.fields ++ field.now ∷ []) }
-        ensures apart { OnOk result (IsApart fields.new) }
-        ensures count { length fields.new.ends.items ≡ length fields.old.ends.items }
-        ensures sound { OnOk result (first_of (entry_checks self.now.symbols self.now.size fields.old.fields place field.now) ≡ None) }
-        ensures flaw { IfErr result (IsAnswer (first_of (entry_checks self.now.symbols self.now.size fields.old.fields place field.now))) }
-    {
-        if u64::from(field.symbol) >= self.symbols {
-            return Err(fault_at(ReadKind::RelaLink, place + Rela::R_INFO).into());
-        }
-        if !fits(field, self.size) {
-            return Err(fault_at(ReadKind::RelaPlace, place).into());
-        }
-        if !fields.push(alloc, field)? {
-            return Err(fault_at(ReadKind::FieldOverlap, place).into());
-        }
-        Ok(())
-    }
-}
-
-/// Whether a field lies in a section of this size.
-fn fits(field: &RawField, size: u64) -> bool
-    ensures { result ≡ nat_le (field.now.offset + width field.now.kind) size }
-{
-    match field.offset.checked_add(width(field.kind)) {
-        Some(end) => end <= size,
-        None => false,
-    }
 }

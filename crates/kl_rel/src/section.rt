@@ -42,7 +42,7 @@ pub(crate) fn read_sections(
     ensures flaw { IfErr result (IsAnswer (sections_flaw bytes.now)) }
 {
     let names = StringTable::new(alloc, bytes, &table.section(bytes, table.names))?;
-    let mut sections = Listed::new(alloc);
+    let mut sections = Listed::from_vec(Vec::with_capacity(alloc, table.count as usize)?);
     for number in 1..table.count {
         let header = table.section(bytes, number);
         let section = read_section(bytes, &names, table.place_of(number), &header)?;

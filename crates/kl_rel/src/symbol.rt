@@ -138,7 +138,7 @@ pub(crate) fn read_symbols(
     ensures sound { OnOk result (symbols_flaw bytes.now ≡ None) }
     ensures flaw { IfErr result (IsAnswer (symbols_flaw bytes.now)) }
 {
-    let mut symbols = Listed::new(alloc);
+    let mut symbols = Listed::from_vec(Vec::with_capacity(alloc, symbol_table.count as usize)?);
     if symbol_table.count == 0 {
         return Ok(symbols);
     }

@@ -8,6 +8,8 @@ mod maps;
 #[cfg(test)]
 mod objects;
 #[cfg(test)]
+mod overlaps;
+#[cfg(test)]
 mod placements;
 #[cfg(test)]
 mod records;

@@ -11,7 +11,7 @@ use std::process::Abort;
 
 /// An object as `readelf` shows it: a text of 16 bytes with two relocation entries, a COMDAT group that holds it, and the
 /// tables of symbols and names. What stands at each place is said above it.
-const OBJECT: [u8; 712] = [
+pub(crate) const OBJECT: [u8; 712] = [
     // the file header
     0x7f, 0x45, 0x4c, 0x46, 2, 1, 1, 0, 0, 0, 0, 0, 0, 0, 0, 0, 1, 0, 0x3e, 0, 1, 0, 0, 0, 0, 0, 0,
     0, 0, 0, 0, 0, 0, 0, 0, 0, 0, 0, 0, 0, 8, 1, 0, 0, 0, 0, 0, 0, 0, 0, 0, 0, 0x40, 0, 0, 0, 0, 0,

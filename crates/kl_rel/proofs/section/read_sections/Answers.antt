@@ -11,7 +11,7 @@ pub loop-number-init : goal.loop-number-init
 unfolding sections_flaw sections_in
 loop-number-init c = record {
   flaw = rw c.requires.table.count refl;
-  list = rw (c.new-sections.ensures, c.requires.table.count) refl;
+  list = rw (c.from_vec-sections.ensures, c.in_ok-with_capacity.ensures.items, c.requires.table.count) refl;
 }
 
 pub loop-number-preserved : goal.loop-number-preserved

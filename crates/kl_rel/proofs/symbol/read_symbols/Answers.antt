@@ -8,7 +8,7 @@ pub returns-then-symbol_table-eq0-clause-symbols : goal.returns-then-symbol_tabl
 unfolding symbols_in
 returns-then-symbol_table-eq0-clause-symbols c =
     let none = rw c.requires.symbol_table.count at c.if-symbol_table-eq0.true in
-    rw (c.new-symbols.ensures, none) refl
+    rw (c.from_vec-symbols.ensures, c.in_ok-with_capacity.ensures.items, none) refl
 
 pub returns-then-symbol_table-eq0-clause-sound : goal.returns-then-symbol_table-eq0-clause-sound
 unfolding symbols_flaw
@@ -23,7 +23,7 @@ loop-number-init c =
     let test = ne_eqb _ 0 some in
     record {
       flaw = rw c.requires.symbol_table.count refl;
-      list = rw (c.in_ok-push.ensures.ok, c.new-symbols.ensures, c.requires.symbol_table.count, test) refl;
+      list = rw (c.in_ok-push.ensures.ok, c.from_vec-symbols.ensures, c.in_ok-with_capacity.ensures.items, c.requires.symbol_table.count, test) refl;
     }
 
 pub new-requires-clause-lies : goal.new-requires-clause-lies
