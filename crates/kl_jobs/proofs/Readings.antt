@@ -1,11 +1,11 @@
 -- Files that are read one after another.
-use Rattle.std.proofs.Common.{◌≡◌, inl, inr, ◌⊎◌, ℕ, suc, ◌+◌, ◌<◌, ◌≤◌, true, false, List, [], ◌∷◌, ◌++◌, length, map, take, drop, get_or, refl, sym, ap, ◌∙◌, subst, arith, length-append, drop-cons, add-one}
-use Rattle.std.specs.Prelude.{Option, Some, None, sum_by, Bool, cond, nat_lt, ◌^◌}
-use Rattle.std.specs.Option.{option_map, option_or}
+use Rattle.std.proofs.Common.{◌≡◌, ℕ, suc, ◌+◌, ◌<◌, ◌≤◌, true, false, List, [], ◌∷◌, ◌++◌, length, take, drop, get_or, refl, sym, ap, ◌∙◌, arith, length-append, drop-cons, add-one}
+use Rattle.std.specs.Prelude.{Option, Some, None, Bool, cond, nat_lt, unwrap_or}
+use Rattle.std.specs.Option.{option_map}
 use Rattle.std.specs.FinMap.{get}
 use Rattle.std.proofs.lemmas.List.{map_more}
 use Rattle.std.proofs.lemmas.List.Sums.{sum_by-append}
-use Rattle.std.proofs.lemmas.Bool.{le-ltb, ltb-false}
+use Rattle.std.proofs.lemmas.Bool.{le-ltb, lt-ltb, ltb-false}
 use Rattle.kl_base.specs.declared.limits.TheConstants.{FIELD_COUNT_LIMIT, INPUT_BYTES_LIMIT, INPUT_COUNT_LIMIT, INPUT_LIMIT, SECTION_COUNT_LIMIT, SYMBOL_COUNT_LIMIT}
 use Rattle.kl_store.specs.Names.{Names}
 use Rattle.kl_model.specs.declared.kit.KitInput.{KitInput}
@@ -20,7 +20,7 @@ use Rattle.kl_jobs.specs.declared.cause.Cause.TheVariants as cause
 use Rattle.kl_jobs.specs.declared.cause.ObjectCause.TheVariants.{Elf}
 use Rattle.kl_jobs.specs.declared.cause.TotalOf.TheVariants.{Inputs, Bytes, Sections, Symbols, Fields}
 use Rattle.kl_jobs.specs.declared.cause.TotalOf.{TotalOf}
-use Rattle.kl_jobs.specs.Reading.{Counts, below, file_fault, flaw_cause, held, input_of, input_refusal, inputs_in, is_archive, lines_refusal, over, over_totals, total_cause}
+use Rattle.kl_jobs.specs.Reading.{Counts, below, file_fault, held, input_of, input_refusal, inputs_in, is_archive, lines_refusal, over, over_totals, total_cause}
 
 drop_here : (all : List KitInput) (i : ℕ) (k : KitInput) → i < length all → k ≡ get_or all i k → drop i all ≡ k ∷ drop (suc i) all
 drop_here all i k less here = drop-cons all i k less ∙ ap (λ (j : KitInput). j ∷ drop (suc i) all) (sym here)
@@ -93,6 +93,43 @@ pub limit_refused : (line : ℕ) (before : List Input) (place : Part) (b : List 
     → input_refusal line before (input_of place b) ≡ option_map (total_cause line) o
 unfolding input_refusal
 limit_refused line before place b o plain sound is = rw (plain, sound, ← is) refl
+
+-- fields that pass their limit, however far
+past : (f : ℕ) → FIELD_COUNT_LIMIT < f → nat_lt FIELD_COUNT_LIMIT f ≡ true
+past f h = lt-ltb FIELD_COUNT_LIMIT f h
+
+same_total : (i b s y f g : ℕ) → FIELD_COUNT_LIMIT < f → FIELD_COUNT_LIMIT < g → over_totals i b s y f ≡ over_totals i b s y g
+same_total i b s y f g h k = rw (past f h, past g k) refl
+
+some_total : (i b s y f : ℕ) → FIELD_COUNT_LIMIT < f → over_totals i b s y f ≡ Some (unwrap_or (over_totals i b s y f) Fields)
+some_total i b s y f h = rw (past f h) (go (nat_lt INPUT_COUNT_LIMIT i) (nat_lt INPUT_BYTES_LIMIT b) (nat_lt SECTION_COUNT_LIMIT s) (nat_lt SYMBOL_COUNT_LIMIT y))
+  where
+    go : (p q r t : Bool) →
+        cond p (Some Inputs) (cond q (Some Bytes) (cond r (Some Sections) (cond t (Some Symbols) (Some Fields))))
+        ≡ Some (unwrap_or (cond p (Some Inputs) (cond q (Some Bytes) (cond r (Some Sections) (cond t (Some Symbols) (Some Fields))))) Fields)
+    go true q r t = refl
+    go false true r t = refl
+    go false false true t = refl
+    go false false false true = refl
+    go false false false false = refl
+
+-- the refusal of an input with more fields than a kit may have
+pub many_refused : (line : ℕ) (before : List Input) (place : Part) (b : List ℕ) (i by s y f sections symbols : ℕ) → Counts before i by s y f
+    → is_archive b ≡ false → flaw b ≡ None → FIELD_COUNT_LIMIT < length (object b).fields → sections ≡ length (object b).sections
+    → symbols ≡ length (object b).symbols
+    → input_refusal line before (input_of place b)
+    ≡ Some (total_cause line (unwrap_or (over_totals (i + 1) (by + length b) (s + sections) (y + symbols) (FIELD_COUNT_LIMIT + 1)) Fields))
+many_refused line before place b i by s y f sections symbols counts plain sound many e1 e2 =
+    let x = input_of place b in
+    let f2 = f + length (object b).fields in
+    let all = counts_over (before ++ x ∷ []) (i + 1) (by + length b) (s + length (object b).sections) (y + length (object b).symbols) f2
+    (counts_more before x i by s y f counts) in
+    let short : over_totals (i + 1) (by + length b) (s + sections) (y + symbols) (FIELD_COUNT_LIMIT + 1)
+    ≡ over_totals (i + 1) (by + length b) (s + sections) (y + symbols) f2 =
+    same_total (i + 1) (by + length b) (s + sections) (y + symbols) (FIELD_COUNT_LIMIT + 1) f2 (omega arith) (omega (arith, many)) in
+    let named : over_totals (i + 1) (by + length b) (s + sections) (y + symbols) f2 ≡ over (before ++ x ∷ []) = rw (e1, e2) all in
+    limit_refused line before place b (over (before ++ x ∷ [])) plain sound refl
+    ∙ ap (option_map (total_cause line)) (sym (short ∙ named) ∙ some_total (i + 1) (by + length b) (s + sections) (y + symbols) (FIELD_COUNT_LIMIT + 1) (omega arith))
 
 -- the totals with one input more
 pub over_more : (xs : List Input) (place : Part) (b : List ℕ) (x : Object) (i by s y f i2 b2 s2 y2 f2 : ℕ) → Counts xs i by s y f → x ≡ object b

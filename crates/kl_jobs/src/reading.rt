@@ -1,5 +1,5 @@
 // The kit of a folder, and its inputs, one file after another.
-ghost use Rattle.std.specs.Prelude.{◌≡◌, ◌≢◌, ◌≤◌, ◌+◌, ◌++◌, ◌∷◌, ◌⊎◌, ◌==◌, ◌^◌, [], None, Some, All, AllPairs, filter, length, map, IfOk, IfErr, OnOk, IsErrOf};
+ghost use Rattle.std.specs.Prelude.{List, false, ◌≡◌, ◌≢◌, ◌<◌, ◌≤◌, ◌+◌, ◌++◌, ◌∷◌, ◌⊎◌, ◌==◌, ◌^◌, [], None, Some, All, AllPairs, filter, length, map, IfOk, IfErr, OnOk, IsErrOf};
 ghost use Rattle.std.specs.List.{AllByRecursion};
 ghost use Rattle.std.specs.Option.{ForSome};
 ghost use Rattle.kl_base.specs.Names.{name_fault};
@@ -9,6 +9,8 @@ ghost use Rattle.kl_model.specs.Fit.{AreFit, IsFit, IsKit};
 ghost use Rattle.kl_model.specs.Kept.{part_number};
 ghost use Rattle.kl_model.specs.declared.kit.KitKind.TheVariants.{Kernel};
 ghost use Rattle.kl_kit.specs.Forms.{HasFile};
+ghost use Rattle.kl_model.specs.declared.object.Input.{Input};
+ghost use Rattle.kl_rel.specs.Objects.{flaw, object};
 ghost use Rattle.kl_jobs.specs.Reading.{Counts, below, input_of, input_refusal, inputs_in, kit_in, kit_order as lines_in_kit_order, lines_of, lines_refusal, over, over_totals, text_refusal};
 ghost use Rattle.kl_jobs.specs.Reading.{is_archive as is_archive_of};
 ghost use Rattle.kl_jobs.specs.Refusals.{IsRefusal, Refuses};
@@ -20,8 +22,8 @@ use kl_base::{
     Name, NoMemory, SECTION_COUNT_LIMIT, SYMBOL_COUNT_LIMIT,
 };
 use kl_kit::{KitError, read_kit};
-use kl_model::{Input, Kit, KitInput, KitKind, Part, Word};
-use kl_rel::{ReadError, read_object};
+use kl_model::{Input, Kit, KitInput, KitKind, Object, Part, Word};
+use kl_rel::{LimitError, read_object_within};
 use kl_store::Store;
 use std::alloc::Global;
 
@@ -163,17 +165,7 @@ fn push_input(
     if is_archive(&bytes) {
         return Err(Cause::NotYet);
     }
-    let object = match read_object(alloc, &bytes) {
-        Ok(object) => object,
-        Err(ReadError::NoMemory) => return Err(Cause::NoMemory),
-        Err(ReadError::Flaw(fault)) => {
-            return Err(Cause::Object {
-                input: totals.inputs as u32,
-                line: line.line,
-                fault: ObjectCause::Elf(fault),
-            });
-        }
-    };
+    let object = read_input(alloc, line, &bytes, totals)?;
     let input = Input {
         place: line.place,
         bytes: Listed::from_vec(bytes),
@@ -189,6 +181,55 @@ fn push_input(
     inputs.push(input)?;
     *totals = more;
     Ok(())
+}
+
+/// The object of a line's file that is no archive, behind inputs that have so much.
+///
+/// # Errors
+///
+/// `Object` with its first flaw, and `Kit` where it has more relocation entries than a kit may have: these take no memory then.
+fn read_input(
+    alloc: Global,
+    line: &KitInput,
+    bytes: &[u8],
+    totals: &Totals,
+) -> Result<Object, Cause>
+    requires short { length bytes.now ≤ INPUT_LIMIT }
+    requires plain { is_archive_of bytes.now ≡ false }
+    requires inputs_fit { totals.now.inputs < 2 ^ 32 }
+    requires bytes_fit { totals.now.bytes ≤ 2 ^ 32 }
+    requires sections_fit { totals.now.sections ≤ 2 ^ 32 }
+    requires symbols_fit { totals.now.symbols ≤ 2 ^ 32 }
+    ensures object { IfOk result (λ o. o ≡ object bytes.now) }
+    ensures sound { OnOk result (flaw bytes.now ≡ None) }
+    ensures fit { IfOk result (λ o. (x : Input) → x.bytes ≡ bytes.now → x.object ≡ o → IsFit x) }
+    ensures refused { (before : List Input) → Counts before totals.now.inputs totals.now.bytes totals.now.sections totals.now.symbols totals.now.fields → IfErr result (λ c. (c ≡ Cause.NoMemory) ⊎ (input_refusal line.now.line before (input_of line.now.place bytes.now) ≡ Some c)) }
+    ensures refusal { IfErr result IsRefusal }
+    ensures no_store { IfErr result (λ c. c ≢ Cause.Store) }
+{
+    match read_object_within(alloc, bytes, FIELD_COUNT_LIMIT as u64) {
+        Ok(object) => Ok(object),
+        Err(LimitError::NoMemory) => Err(Cause::NoMemory),
+        Err(LimitError::Flaw(fault)) => Err(Cause::Object {
+            input: totals.inputs as u32,
+            line: line.line,
+            fault: ObjectCause::Elf(fault),
+        }),
+        Err(LimitError::TooManyFields { sections, symbols }) => {
+            let more = Totals {
+                inputs: totals.inputs + 1,
+                bytes: totals.bytes + bytes.len(),
+                sections: totals.sections + sections,
+                symbols: totals.symbols + symbols,
+                fields: FIELD_COUNT_LIMIT + 1,
+            };
+            let what = over_limit(&more).unwrap_or(TotalOf::Fields);
+            Err(Cause::Kit(KitCause::Total {
+                what,
+                line: line.line,
+            }))
+        }
+    }
 }
 
 /// Whether bytes are those of an archive, a thin one among them.

@@ -1,18 +1,20 @@
 -- Fields that share a byte, and their spans.
-use Rattle.std.proofs.Common.{ℕ, zero, suc, ◌≡◌, ◌+◌, ◌-◌, ◌<◌, ◌≤◌, ◌⊎◌, inl, inr, Bool, true, false, ◌&&◌, List, [], ◌∷◌, ◌++◌, length, get_or, refl, arith, eq-eqb, eqb-true, lt-ltb}
-use Rattle.std.specs.Prelude.{All, AllPairs, max, min, filter, ◌==◌, nat_lt, nat_le, slice_index_or}
+use Rattle.std.proofs.Common.{ℕ, zero, suc, ◌≡◌, ◌+◌, ◌-◌, ◌<◌, ◌≤◌, ◌⊎◌, ◌∙◌, inl, inr, Bool, true, false, cond, ◌&&◌, List, [], ◌∷◌, ◌++◌, length, get_or, take, refl, ap, arith, eq-eqb, eqb-true, lt-ltb}
+use Rattle.std.specs.Prelude.{All, AllPairs, max, min, map, filter, ◌==◌, nat_lt, nat_le, slice_index_or}
 use Rattle.std.specs.List.{AllAdjacentBelow, list_any, range_with_len}
 use Rattle.std.specs.Ordering.{is_lt}
 use Rattle.std.proofs.lemmas.Bool.{ltb-true, leb-true, cases_lt, cases_order, and_parts}
 use Rattle.std.proofs.lemmas.Bool.Decides.{nat_tests}
+use Rattle.std.proofs.lemmas.List.{append-nil, get_or_default}
 use Rattle.std.proofs.lemmas.List.Folds.{list_any_none}
 use Rattle.std.proofs.lemmas.List.Kept.{AllPairs-filter}
-use Rattle.std.proofs.lemmas.List.Elements.{All-map, All-weaker, filter_passes}
+use Rattle.std.proofs.lemmas.List.Elements.{filter_more, All-map, All-weaker, filter_passes}
 use Rattle.kl_model.specs.Fit.{ShareNoByte}
 use Rattle.kl_model.specs.Relocations.{width}
 use Rattle.kl_model.specs.declared.object.RawField.{RawField}
 use Rattle.kl_rel.specs.Relocations.{is_byte_of, is_taken, shares_byte}
 use Rattle.kl_rel.specs.FieldScans.{ApartUnless, Span, span_of, span_cmp, meet, Apart, is_noted, noted_spans}
+use Rattle.kl_rel.proofs.Passes.{map-append}
 use Rattle.kl_rel.proofs.Pairs.{pair_last, pairs_map, pairs_unmap, pairs_unfilter}
 
 -- a field that shares no byte with any before it
@@ -22,8 +24,10 @@ last_free fields f pairs = go f.offset (width f.kind) (omega arith) (omega arith
     one : (g : RawField) (x : ℕ) → ShareNoByte g f → f.offset ≤ x → x < f.offset + width f.kind → is_byte_of f.section x g ≡ false
     one g x apart low high = at (g.section == f.section) (nat_le g.offset x) (nat_lt x (g.offset + width g.kind)) refl refl refl
       where
-        at : (s o e : Bool) → (g.section == f.section) ≡ s → nat_le g.offset x ≡ o → nat_lt x (g.offset + width g.kind) ≡ e → ((s && o) && e) ≡ false
-        at true true true es eo ee = absurd (apart (eqb-true g.section f.section es) x (leb-true g.offset x eo, ltb-true x (g.offset + width g.kind) ee) (low, high))
+        at : (s o e : Bool) → (g.section == f.section) ≡ s → nat_le g.offset x ≡ o → nat_lt x (g.offset + width g.kind) ≡ e
+            → ((s && o) && e) ≡ false
+        at true true true es eo ee =
+            absurd (apart (eqb-true g.section f.section es) x (leb-true g.offset x eo, ltb-true x (g.offset + width g.kind) ee) (low, high))
         at true true false es eo ee = refl
         at true false e es eo ee = refl
         at false o e es eo ee = refl
@@ -31,31 +35,38 @@ last_free fields f pairs = go f.offset (width f.kind) (omega arith) (omega arith
     go : (a n : ℕ) → f.offset ≤ a → a + n ≤ f.offset + width f.kind → list_any (is_taken fields f.section) (range_with_len a n) ≡ false
     go a zero low high = refl
     go a (suc n) low high =
-        let here = list_any_none (is_byte_of f.section a) fields (λ k d h. one (get_or fields k d) a (pair_last ShareNoByte fields f pairs k d h) low (omega arith)) in
+        let here = list_any_none (is_byte_of f.section a) fields
+        (λ k d h. one (get_or fields k d) a (pair_last ShareNoByte fields f pairs k d h) low (omega arith)) in
         rw here (go (a + 1) n (omega arith) (omega arith))
 
 -- two fields share a byte where their spans do
 spans_apart : (f h : RawField) → ShareNoByte f h → Apart (span_of f) (span_of h)
-spans_apart f h apart = go (f.section == h.section) (nat_lt (max f.offset h.offset) (min (f.offset + width f.kind) (h.offset + width h.kind))) refl refl
+spans_apart f h apart =
+    go (f.section == h.section) (nat_lt (max f.offset h.offset) (min (f.offset + width f.kind) (h.offset + width h.kind))) refl refl
   where
-    go : (s m : Bool) → (f.section == h.section) ≡ s → nat_lt (max f.offset h.offset) (min (f.offset + width f.kind) (h.offset + width h.kind)) ≡ m → (s && m) ≡ false
+    go : (s m : Bool) → (f.section == h.section) ≡ s
+        → nat_lt (max f.offset h.offset) (min (f.offset + width f.kind) (h.offset + width h.kind)) ≡ m → (s && m) ≡ false
     go true true es em =
         let common = ltb-true (max f.offset h.offset) (min (f.offset + width f.kind) (h.offset + width h.kind)) em in
-        absurd (apart (eqb-true f.section h.section es) (max f.offset h.offset) (omega arith, omega (arith, common)) (omega arith, omega (arith, common)))
+        absurd (apart (eqb-true f.section h.section es) (max f.offset h.offset) (omega arith, omega (arith, common))
+        (omega arith, omega (arith, common)))
     go true false es em = refl
     go false m es em = refl
 
 fields_apart : (f h : RawField) → Apart (span_of f) (span_of h) → ShareNoByte f h
 fields_apart f h none = λ same q first second.
-    let common : max f.offset h.offset < min (f.offset + width f.kind) (h.offset + width h.kind) = omega (arith, first.0, first.1, second.0, second.1) in
+    let common : max f.offset h.offset < min (f.offset + width f.kind) (h.offset + width h.kind) = omega
+    (arith, first.0, first.1, second.0, second.1) in
     let is = lt-ltb (max f.offset h.offset) (min (f.offset + width f.kind) (h.offset + width h.kind)) common in
     let bad : true ≡ false = rw (eq-eqb f.section h.section same, is) at none in
     cc
 
 -- fields whose spans share no byte, where only those that are noted may
-pub apart_by_spans : (noted : List Bool) (fields : List RawField) → AllPairs (ApartUnless noted) fields → AllPairs Apart (noted_spans noted fields) → AllPairs ShareNoByte fields
+pub apart_by_spans : (noted : List Bool) (fields : List RawField) → AllPairs (ApartUnless noted) fields
+    → AllPairs Apart (noted_spans noted fields) → AllPairs ShareNoByte fields
 apart_by_spans noted fields others spans =
-    pairs_unfilter (is_noted noted) ShareNoByte fields (λ i j d less short none. one (get_or fields i d) (get_or fields j d) none (others i j d less short))
+    pairs_unfilter (is_noted noted) ShareNoByte fields
+    (λ i j d less short none. one (get_or fields i d) (get_or fields j d) none (others i j d less short))
     (pairs_unmap span_of ShareNoByte Apart fields_apart (filter (is_noted noted) fields) spans)
   where
     one : (f h : RawField) → (is_noted noted f && is_noted noted h) ≡ false → ApartUnless noted f h → ShareNoByte f h
@@ -71,7 +82,32 @@ apart_by_spans noted fields others spans =
 
 pub spans_by_apart : (noted : List Bool) (fields : List RawField) → AllPairs ShareNoByte fields → AllPairs Apart (noted_spans noted fields)
 spans_by_apart noted fields pairs =
-    pairs_map span_of ShareNoByte Apart spans_apart (filter (is_noted noted) fields) (AllPairs-filter ShareNoByte (is_noted noted) fields pairs)
+    pairs_map span_of ShareNoByte Apart spans_apart (filter (is_noted noted) fields)
+    (AllPairs-filter ShareNoByte (is_noted noted) fields pairs)
+
+-- one field more
+spans_more : (noted : List Bool) (fields : List RawField) (i : ℕ) (d : RawField) → i < length fields
+    → noted_spans noted (take (i + 1) fields)
+    ≡ noted_spans noted (take i fields) ++ map span_of (cond (is_noted noted (get_or fields i d)) (get_or fields i d ∷ []) [])
+spans_more noted fields i d h =
+    ap (map span_of) (filter_more (is_noted noted) fields i d h)
+    ∙ map-append span_of (filter (is_noted noted) (take i fields)) (cond (is_noted noted (get_or fields i d)) (get_or fields i d ∷ []) [])
+
+pub spans_taken : (noted : List Bool) (fields : List RawField) (i : ℕ) (d : RawField) → i < length fields
+    → is_noted noted (get_or fields i d) ≡ true
+    → noted_spans noted (take (i + 1) fields) ≡ noted_spans noted (take i fields) ++ span_of (get_or fields i d) ∷ []
+spans_taken noted fields i d h is = spans_more noted fields i d h ∙ rw is refl
+
+pub spans_passed : (noted : List Bool) (fields : List RawField) (i : ℕ) (d : RawField) → i < length fields
+    → is_noted noted (get_or fields i d) ≡ false
+    → noted_spans noted (take (i + 1) fields) ≡ noted_spans noted (take i fields)
+spans_passed noted fields i d h isnt = spans_more noted fields i d h ∙ (rw isnt (append-nil (noted_spans noted (take i fields))))
+
+-- what is read of the notes
+pub noted_at : (noted : List Bool) (fields : List RawField) → All (λ f. f.section < length noted) fields
+    → (i : ℕ) (d : RawField) (r : Bool) → i < length fields
+    → r ≡ get_or noted (get_or fields i d).section r → r ≡ slice_index_or noted (get_or fields i d).section true
+noted_at noted fields sections i d r h e = e ∙ get_or_default noted (get_or fields i d).section r true (sections i d h)
 
 -- each of these spans has a byte
 pub spans_have_bytes : (noted : List Bool) (fields : List RawField) → All (λ x. x.1 < x.2) (noted_spans noted fields)
@@ -109,7 +145,8 @@ all_precede xs bytes next = λ i j d less short.
     far i (suc n) d short =
         let e : i + suc (suc n) ≡ (i + suc n) + 1 = omega arith in
         let last = next (i + suc n) d (rw e at short) in
-        rw e (precedes_far (get_or xs i d) (get_or xs (i + suc n) d) (get_or xs ((i + suc n) + 1) d) (bytes (i + suc n) d (omega (arith, short))) (far i n d (omega (arith, short))) last)
+        rw e (precedes_far (get_or xs i d) (get_or xs (i + suc n) d) (get_or xs ((i + suc n) + 1) d)
+        (bytes (i + suc n) d (omega (arith, short))) (far i n d (omega (arith, short))) last)
 
 -- in the order of their sections and offsets
 pub in_order : (x y : Span) → is_lt (span_cmp y x) ≡ false → (x.0 < y.0) ⊎ ((x.0 ≡ y.0) × (x.1 ≤ y.1))

@@ -14,7 +14,8 @@ changes b t n = is_read b (section b n) && ((section b n).info == t)
 -- a flaw of a relocation section, and its number; or none, and the number of sections
 pub record IsKnown (b : List ℕ) (known : Known) : Type 0 where
   pub high : known.number ≤ (head b).shnum
-  pub flaw : ((known.number < (head b).shnum) × (1 ≤ known.number) × (f : ReadFault) × (known.fault ≡ Some f) × (rela_flaw_of b known.number ≡ Some f))
+  pub flaw : ((known.number < (head b).shnum) × (1 ≤ known.number) × (f : ReadFault) × (known.fault ≡ Some f)
+      × (rela_flaw_of b known.number ≡ Some f))
       ⊎ ((known.number ≡ (head b).shnum) × (known.fault ≡ None))
 
 -- the form of each section before this one has no flaw
@@ -35,11 +36,13 @@ pub record IsChained (b : List ℕ) (n : ℕ) (chains : Chains) : Type 0 where
   pub firsts : length chains.first.items ≡ (head b).shnum
   pub nexts : length chains.next.items ≡ (head b).shnum
   pub first : (t : ℕ) → t < (head b).shnum → IsNext b t n (slice_index chains.first.items t)
-  pub next : (k : ℕ) → n ≤ k → k < (head b).shnum → is_read b (section b k) ≡ true → IsNext b (section b k).info (k + 1) (slice_index chains.next.items k)
+  pub next : (k : ℕ) → n ≤ k → k < (head b).shnum → is_read b (section b k) ≡ true
+      → IsNext b (section b k).info (k + 1) (slice_index chains.next.items k)
 
 -- the bytes with the stamp of the section that section n changes are those of the fields before entry k of it
 abbrev pub AreStamped : List ℕ → ℕ → ℕ → List ℕ → Type 0
-AreStamped b n k stamps = (x : ℕ) → x < length stamps → (slice_index stamps x == (section b n).info) ≡ is_taken (fields_before b n k) (section b n).info x
+AreStamped b n k stamps =
+    (x : ℕ) → x < length stamps → (slice_index stamps x == (section b n).info) ≡ is_taken (fields_before b n k) (section b n).info x
 
 -- each stamp is as before, or this one
 abbrev pub AreOf : ℕ → List ℕ → List ℕ → Type 0

@@ -5,7 +5,10 @@ use Rattle.std.specs.declared.cmp.Ordering.{Ordering}
 use Rattle.kl_model.specs.Fit.{ShareNoByte}
 use Rattle.kl_model.specs.Relocations.{width}
 use Rattle.kl_model.specs.declared.object.RawField.{RawField}
-use Rattle.kl_rel.specs.Flaws.{flaw_if}
+use Rattle.kl_rel.specs.Flaws.{flaw_if, first_of}
+use Rattle.kl_rel.specs.Headers.{section}
+use Rattle.kl_rel.specs.SymbolTables.{symbol_count}
+use Rattle.kl_rel.specs.Relocations.{entry_place, field_of}
 use Rattle.kl_rel.specs.declared.fault.ReadFault.{ReadFault}
 use Rattle.kl_rel.specs.declared.fault.ReadError.{ReadError}
 use Rattle.kl_rel.specs.declared.fault.ReadError.TheVariants.{Flaw, NoMemory}
@@ -17,6 +20,10 @@ use Rattle.kl_elf.specs.declared.records.TheConstants.Rela as rela
 unfoldable pub plain_checks : ℕ → ℕ → ℕ → RawField → List (Option ReadFault)
 plain_checks symbols size place f =
     flaw_if (nat_le symbols f.symbol) RelaLink (place + rela.R_INFO) ∷ flaw_if (nat_lt size (f.offset + width f.kind)) RelaPlace place ∷ []
+
+-- entry k of section n
+abbrev pub plain_flaw_of : List ℕ → ℕ → ℕ → Option ReadFault
+plain_flaw_of b n k = first_of (plain_checks (symbol_count b) (section b (section b n).info).size (entry_place b n k) (field_of b n k))
 
 -- a refusal, but for want of memory, tells that there is a flaw
 abbrev pub TellsFlaw : Option ReadFault → ReadError → Type 0

@@ -64,7 +64,7 @@ impl fmt::Display for LimitError {
     fn fmt<W: fmt::Write>(&self, f: &mut fmt::Formatter<W>) -> fmt::Result {
         match self {
             LimitError::Flaw(fault) => write!(f, "{fault}"),
-            LimitError::TooManyFields => f.write_str("it has too many relocation entries"),
+            LimitError::TooManyFields { .. } => f.write_str("it has too many relocation entries"),
             LimitError::NoMemory => f.write_str("out of memory"),
         }
     }

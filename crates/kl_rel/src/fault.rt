@@ -87,8 +87,8 @@ pub enum ReadError {
 pub enum LimitError {
     /// The first flaw of its bytes.
     Flaw(ReadFault),
-    /// It has no flaw, but more relocation entries than the limit.
-    TooManyFields,
+    /// It has no flaw, but more relocation entries than the limit; and so many sections and symbols.
+    TooManyFields { sections: usize, symbols: usize },
     /// Memory ran out.
     NoMemory,
 }

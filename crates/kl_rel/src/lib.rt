@@ -1,12 +1,12 @@
 //! Reads an ELF64 relocatable object: what stands in its bytes, or its first flaw.
 #![tactic(auto)]
 
-ghost use Rattle.std.specs.Prelude.{◌≡◌, ◌≤◌, ◌<◌, length, IfOk, OnOk, IfErr, None};
+ghost use Rattle.std.specs.Prelude.{◌≡◌, ◌≤◌, ◌<◌, ◌^◌, length, IfOk, OnOk, IfErr, None};
 ghost use Rattle.kl_model.specs.Fit.{IsFit};
 ghost use Rattle.kl_model.specs.declared.object.Input.{Input};
 ghost use Rattle.kl_rel.specs.Flaws.{IsAnswer};
 ghost use Rattle.kl_rel.specs.Objects.{flaw, object};
-ghost use Rattle.kl_rel.specs.Limits.{IsAnswerWithin};
+ghost use Rattle.kl_rel.specs.Limits.{AreCounts, IsAnswerWithin};
 ghost use Rattle.kl_base.specs.declared.limits.TheConstants.{INPUT_LIMIT};
 
 mod display;
@@ -24,7 +24,7 @@ mod table;
 pub use fault::{Feature, LimitError, ReadError, ReadFault, ReadKind};
 use first_flaw::check_relocations;
 use group::read_groups;
-use kl_model::Object;
+use kl_model::{Object, Section, Symbol};
 use relocation::{entry_count, read_relocations};
 use section::read_sections;
 use std::alloc::Global;
@@ -69,24 +69,35 @@ pub fn read_object_within(alloc: Global, bytes: &[u8], limit: u64) -> Result<Obj
     ensures object { IfOk result (λ o. o ≡ object bytes.now) }
     ensures sound { OnOk result (flaw bytes.now ≡ None) }
     ensures few { OnOk result (length (object bytes.now).fields ≤ limit) }
-    ensures refused { IfErr result (IsAnswerWithin (flaw bytes.now) (length (object bytes.now).fields) limit) }
+    ensures refused { IfErr result (IsAnswerWithin (flaw bytes.now) (object bytes.now) limit) }
     ensures fit { IfOk result (λ o. (x : Input) → x.bytes ≡ bytes.now → x.object ≡ o → IsFit x) }
 {
     let table = read_table(bytes)?;
     if entry_count(bytes, &table, limit).is_some() {
         return Ok(read_object(alloc, bytes)?);
     }
-    check_object(alloc, bytes)?;
-    Err(LimitError::TooManyFields)
+    let counts = check_object(alloc, bytes)?;
+    Err(LimitError::TooManyFields {
+        sections: counts.sections,
+        symbols: counts.symbols,
+    })
 }
 
-/// Looks for the flaws of an object.
+/// How many sections and symbols an object has.
+#[derive(Clone, Copy)]
+struct Counts {
+    sections: usize,
+    symbols: usize,
+}
+
+/// Looks for the flaws of an object, and counts its sections and symbols.
 ///
 /// # Errors
 ///
 /// The first flaw of the bytes, or want of memory.
-fn check_object(alloc: Global, bytes: &[u8]) -> Result<(), ReadError>
+fn check_object(alloc: Global, bytes: &[u8]) -> Result<Counts, ReadError>
     requires { length bytes.now ≤ INPUT_LIMIT }
+    ensures counts { IfOk result (λ k. AreCounts (object bytes.now) k.sections k.symbols) }
     ensures sound { OnOk result (flaw bytes.now ≡ None) }
     ensures flaw { IfErr result (IsAnswer (flaw bytes.now)) }
 {
@@ -97,5 +108,24 @@ fn check_object(alloc: Global, bytes: &[u8]) -> Result<(), ReadError>
     let symbols = read_symbols(alloc, bytes, &table, &symbol_table)?;
     check_relocations(alloc, bytes, &table, &symbol_table)?;
     read_groups(alloc, bytes, &table, sections.items(), symbols.items())?;
-    Ok(())
+    Ok(Counts {
+        sections: section_count(sections.items()),
+        symbols: symbol_count(symbols.items()),
+    })
+}
+
+/// How many sections a list has.
+fn section_count(sections: &[Section]) -> usize
+    ensures count { result ≡ length sections.now }
+    ensures short { result < 2 ^ 63 }
+{
+    sections.len()
+}
+
+/// How many symbols a list has.
+fn symbol_count(symbols: &[Symbol]) -> usize
+    ensures count { result ≡ length symbols.now }
+    ensures short { result < 2 ^ 63 }
+{
+    symbols.len()
 }

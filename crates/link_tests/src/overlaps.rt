@@ -163,7 +163,10 @@ fn tells_the_first_flaw_of_more_fields_than_the_limit(rt: HostRuntime) {
                     kind: *kind,
                     at: *at,
                 }),
-                None => LimitError::TooManyFields,
+                None => LimitError::TooManyFields {
+                    sections: 6,
+                    symbols: 3,
+                },
             };
             assert_eq!(rt; read.err(), Some(refusal));
             let whole = read_object_within(rt.alloc(), &bytes, 4);
@@ -177,7 +180,8 @@ fn tells_the_first_flaw_of_more_fields_than_the_limit(rt: HostRuntime) {
 fn tells_entries_that_are_named_twice(rt: HostRuntime) {
     let entries = [(0, 2, 1), (4, 2, 1), (8, 2, 1), (12, 2, 1)];
     let mut bytes = with_entries(&entries, true);
-    bytes[672..680].copy_from_slice(&712_u64.to_le_bytes());
+    // 712 in place of 760
+    bytes[672] = 0xc8;
     let fault = ReadFault {
         kind: FieldOverlap,
         at: 712,

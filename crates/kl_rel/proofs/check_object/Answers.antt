@@ -1,4 +1,6 @@
+use Rattle.std.proofs.Common.{◌∙◌, ap, length}
 use Rattle.std.proofs.lemmas.Result.{err_from_is_err_and}
+use Rattle.kl_rel.specs.Objects.{object}
 use Rattle.kl_rel.proofs.Whole.{has_table, head_answer, ranges_answer, sections_answer, symbol_table_answer, symbols_answer, relocations_answer, groups_answer, no_flaw}
 use Rattle.kl_rel.proofs.check_object.Goals as goal
 
@@ -49,3 +51,12 @@ returns-clause-sound c =
     let b = c.args.bytes.now in
     no_flaw b (has_table b c.in_ok-table.ensures.flaw) c.in_ok-check_ranges.ensures c.in_ok-sections.ensures.sound c.in_ok-symbol_table.ensures.flaw
     c.in_ok-symbols.ensures.sound c.in_ok-check_relocations.ensures.sound c.in_ok-read_groups.ensures.sound
+
+pub returns-clause-counts : goal.returns-clause-counts
+unfolding object
+returns-clause-counts c = record {
+  sections_are = c.section_count.ensures.count ∙ ap length (c.items-3.ensures ∙ c.in_ok-sections.ensures.sections);
+  symbols_are = c.symbol_count.ensures.count ∙ ap length (c.items-4.ensures ∙ c.in_ok-symbols.ensures.symbols);
+  sections_short = c.section_count.ensures.short;
+  symbols_short = c.symbol_count.ensures.short;
+}

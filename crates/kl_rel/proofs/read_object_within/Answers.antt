@@ -22,4 +22,5 @@ pub returns-clause-refused : goal.returns-clause-refused
 unfolding object
 returns-clause-refused c =
     let counted = rw c.entry_count.ensures at c.is_some.ensures in
-    (c.in_ok-check_object.ensures.sound, none_within (length (fields_in c.args.bytes.now)) c.args.limit (sym counted ∙ c.if-is_some.false))
+    let many = none_within (length (fields_in c.args.bytes.now)) c.args.limit (sym counted ∙ c.if-is_some.false) in
+    (c.in_ok-counts.ensures.sound, (many, c.in_ok-counts.ensures.counts))

@@ -5,8 +5,8 @@ use Rattle.kl_rel.specs.Headers.{section}
 use Rattle.kl_rel.specs.Relocations.{entry_flaw_of, entries_flaw}
 use Rattle.kl_rel.proofs.Passes.{first_passes, first_stops, upto-start}
 use Rattle.kl_rel.proofs.Places.{not_false, not_true}
-use Rattle.kl_rel.proofs.Scans.{plain_some, plain_fits}
-use Rattle.kl_rel.proofs.Stamps.{plain_free, plain_shared, stamps_shared, stamped_more}
+use Rattle.kl_rel.proofs.Scans.{plain_some, plain_free, plain_shared, plain_fits}
+use Rattle.kl_rel.proofs.Stamps.{stamps_shared, stamped_more}
 use Rattle.kl_rel.proofs.first_flaw.stamp.Goals as goal
 use Rattle.kl_elf.specs.declared.records.TheConstants.Rela as rela
 

@@ -50,6 +50,26 @@ stamp-requires-clause-room c =
     let size = rw parts.1 at (target_size b n c.requires.ranges c.requires.sections (c.requires.forms n turn.low before) parts.0) in
     rw c.section-size.ensures (omega (arith, size, c.requires.room, c.loop-number.invariant.count))
 
+pub stamp-requires-clause-stamps : goal.stamp-requires-clause-stamps
+stamp-requires-clause-stamps c =
+    let turn = c.loop-number.invariant.turn c.loop-number-test.true in
+    let parts = changes_parts c.args.bytes.now c.args.target c.loop-number.number turn.is in
+    rw parts.1 turn.stamped
+
+pub returns-in-Err-clause-passed : goal.returns-in-Err-clause-passed
+returns-in-Err-clause-passed c = λ k low high is.
+    let before = c.if-number-known.true in
+    c.loop-number.invariant.passed k low (λ _. high) (omega (arith, high, before)) is
+
+pub returns-in-Err-clause-stamps : goal.returns-in-Err-clause-stamps
+returns-in-Err-clause-stamps c = λ x.
+    let turn = c.loop-number.invariant.turn c.loop-number-test.true in
+    let parts = changes_parts c.args.bytes.now c.args.target c.loop-number.number turn.is in
+    elim (c.stamp.ensures.others x) [
+      | inl kept ↦ omega (arith, kept, c.loop-number.invariant.values x)
+      | inr now ↦ (let is = rw (c.section.ensures, parts.1) at now in omega (arith, is))
+    ]
+
 pub returns-in-Err-clause-known : goal.returns-in-Err-clause-known
 returns-in-Err-clause-known c =
     let b = c.args.bytes.now in
