@@ -23,15 +23,22 @@ edge etext text end
 run .x data x_start x_end
 ";
 
+/// The files of that kit: `a.o` and `b.o` are the same object, and `c.o` and `d.o` have these bytes.
+fn files_with(alloc: Global, c: &[u8], d: &[u8]) -> Result<MemStore, Fail> {
+    let object = object(alloc)?;
+    let mut store = MemStore::new(alloc);
+    store.put(&Name::from_bytes(b"/kit/link.conf")?, TEXT)?;
+    store.put(&Name::from_bytes(b"/kit/a.o")?, &object)?;
+    store.put(&Name::from_bytes(b"/kit/b.o")?, &object)?;
+    store.put(&Name::from_bytes(b"/kit/c.o")?, c)?;
+    store.put(&Name::from_bytes(b"/kit/d.o")?, d)?;
+    Ok(store)
+}
+
 /// The files of that kit, each of them the same object.
 fn files(alloc: Global) -> Result<MemStore, Fail> {
     let object = object(alloc)?;
-    let mut store = kit_store(alloc, TEXT, &object)?;
-    let names: [&[u8]; 4] = [b"/kit/a.o", b"/kit/b.o", b"/kit/c.o", b"/kit/d.o"];
-    for name in names {
-        store.put(&Name::from_bytes(name)?, &object)?;
-    }
-    Ok(store)
+    files_with(alloc, &object, &object)
 }
 
 fn named(alloc: Global, name: &[u8]) -> Result<NameText, Fail> {
@@ -133,13 +140,12 @@ fn names_lines_of_edges(rt: HostRuntime) -> Result<(), Fail> {
 #[test]
 fn names_what_is_not_linked_yet(rt: HostRuntime) -> Result<(), Fail> {
     let alloc = rt.alloc();
-    let mut store = files(alloc)?;
-    store.put(&Name::from_bytes(b"/kit/c.o")?, b"!<thin>\n")?;
+    let mut store = files_with(alloc, b"!<thin>\n", &object(alloc)?)?;
     assert_eq!(rt;
         told(alloc, &Cause::NotYet, &mut store)?.as_str(),
         "relink: /kit/c.o: a thin archive isn't linked yet: name one of its objects\n"
     );
-    store.put(&Name::from_bytes(b"/kit/d.o")?, b"!<arch>\n")?;
+    let mut store = files_with(alloc, b"!<thin>\n", b"!<arch>\n")?;
     assert_eq!(rt;
         told(alloc, &Cause::NotYet, &mut store)?.as_str(),
         "relink: /kit/d.o: an archive isn't linked yet: 'ar x' takes its objects out\n"

@@ -99,6 +99,21 @@ fn kit_store(alloc: Global, text: &[u8], object: &[u8]) -> Result<MemStore, Fail
     Ok(store)
 }
 
+/// A store with a kit text, an object `k.o` and another file in the folder `/kit`.
+fn two_store(
+    alloc: Global,
+    text: &[u8],
+    object: &[u8],
+    name: &[u8],
+    other: &[u8],
+) -> Result<MemStore, Fail> {
+    let mut store = MemStore::new(alloc);
+    store.put(&named(b"/kit/link.conf")?, text)?;
+    store.put(&named(b"/kit/k.o")?, object)?;
+    store.put(&named(name)?, other)?;
+    Ok(store)
+}
+
 #[test]
 fn links_one_object(rt: HostRuntime) -> Result<(), Fail> {
     let alloc = rt.alloc();
@@ -154,8 +169,8 @@ fn tells_usage(rt: HostRuntime) -> Result<(), Fail> {
 fn links_in_kit_order(rt: HostRuntime) -> Result<(), Fail> {
     let alloc = rt.alloc();
     let text = b"# two objects\nkind kernel\n\noutput /bsd\nentry\tstart\n  tail sub/l.o\nhead k.o";
-    let mut store = kit_store(alloc, text, &object(alloc)?)?;
-    store.put(&named(b"/kit/sub/l.o")?, &hex::decode(alloc, CALL)?)?;
+    let call = hex::decode(alloc, CALL)?;
+    let mut store = two_store(alloc, text, &object(alloc)?, b"/kit/sub/l.o", &call)?;
     let (exit, _) = answer(alloc, &[b"link", b"/kit"], &mut store)?;
     assert_eq!(rt; (exit.status, exit.cause), (0, Cause::Done));
     let image = store.get(&named(b"/kit/linked.relink")?).ok_or("an image")?;
@@ -216,8 +231,7 @@ fn refuses_libraries_and_archives(rt: HostRuntime) -> Result<(), Fail> {
     let archives: [&[u8]; 2] = [b"!<arch>\n", b"!<thin>\n"];
     for archive in archives {
         let text = b"kind kernel\noutput /bsd\nentry start\nhead k.o\nobject l.a\n";
-        let mut store = kit_store(alloc, text, &good)?;
-        store.put(&named(b"/kit/l.a")?, archive)?;
+        let mut store = two_store(alloc, text, &good, b"/kit/l.a", archive)?;
         let (exit, _) = answer(alloc, &[b"link", b"/kit"], &mut store)?;
         assert_eq!(rt; (exit.status, exit.cause), (19, Cause::NotYet));
     }
@@ -254,8 +268,7 @@ fn tells_flaws_of_an_object(rt: HostRuntime) -> Result<(), Fail> {
 fn tells_the_first_input_in_kit_order(rt: HostRuntime) -> Result<(), Fail> {
     let alloc = rt.alloc();
     let text = b"kind kernel\noutput /bsd\nentry start\ntail absent.o\nobject bad.o\nhead k.o\n";
-    let mut store = kit_store(alloc, text, &object(alloc)?)?;
-    store.put(&named(b"/kit/bad.o")?, b"no object")?;
+    let mut store = two_store(alloc, text, &object(alloc)?, b"/kit/bad.o", b"no object")?;
     let (exit, _) = answer(alloc, &[b"link", b"/kit"], &mut store)?;
     let fault = ReadFault {
         kind: ReadKind::Head(HeadFault::Truncated),
@@ -267,7 +280,8 @@ fn tells_the_first_input_in_kit_order(rt: HostRuntime) -> Result<(), Fail> {
         fault: ObjectCause::Elf(fault),
     };
     assert_eq!(rt; (exit.status, exit.cause), (13, cause));
-    store.put(&named(b"/kit/bad.o")?, &hex::decode(alloc, CALL)?)?;
+    let call = hex::decode(alloc, CALL)?;
+    let mut store = two_store(alloc, text, &object(alloc)?, b"/kit/bad.o", &call)?;
     let (exit, _) = answer(alloc, &[b"link", b"/kit"], &mut store)?;
     let absent = KitCause::Absent(named(b"/kit/absent.o")?);
     assert_eq!(rt; (exit.status, exit.cause), (12, Cause::Kit(absent)));
