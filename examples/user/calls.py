@@ -25,9 +25,10 @@ def disassembled(kit, base):
 
 
 def symbols(path):
-    """The number, value, binding, section and name of each symbol."""
-    row = r"^\s*(\d+): ([0-9a-f]+)\s+\S+\s+\S+\s+(\S+)\s+\S+\s+(\d+|UND|ABS|COM)(?:\s+(\S+))?$"
-    return [(int(n), int(value, 16), binding, section, name) for n, value, binding, section, name in re.findall(row, output("readelf", "-sW", path), re.M)]
+    """The value, binding, section and name of each symbol, by its number."""
+    row = r"^ *(\d+): ([0-9a-f]+) +\S+ +\S+ +(\S+) +\S+ +(\d+|UND|ABS|COM) *(\S*)$"
+    found = re.findall(row, output("readelf", "-sW", path), re.M)
+    return {int(n): (int(value, 16), binding, section, name) for n, value, binding, section, name in found}
 
 
 def calls(path):
@@ -48,7 +49,7 @@ def main():
     tables = [symbols(f"{kit}/{name}") for name in names]
     defined = {}
     for i, table in enumerate(tables):
-        for _, value, binding, section, name in table:
+        for value, binding, section, name in table.values():
             if binding in ("GLOBAL", "WEAK") and section.isdigit() and (i, int(section)) in placed:
                 defined.setdefault(name, placed[i, int(section)] + value)
     seen = 0
@@ -57,7 +58,7 @@ def main():
             at = placed.get((i, section), 0) + place - 1
             if at not in leads:
                 continue
-            _, value, binding, home, symbol = tables[i][number]
+            value, binding, home, symbol = tables[i][number]
             target = placed[i, int(home)] + value if binding == "LOCAL" else defined[symbol]
             if leads[at] != (target + addend + 4) % 2**64:
                 sys.exit(f"{name}: the call at {at:#x} leads to {leads[at]:#x}, and not to {target + addend + 4:#x}")
