@@ -7,7 +7,7 @@ use Rattle.std.proofs.lemmas.List.Elements.{All-cons}
 use Rattle.std.proofs.lemmas.List.Kept.{AllPairs-cons}
 use Rattle.kl_base.specs.declared.class.Class.TheVariants.{Bss, Text}
 use Rattle.kl_model.specs.Relocations.{width}
-use Rattle.kl_model.specs.Sound.{IsSoundField, IsSoundGraph, IsSoundPiece, IsSoundTarget, StandApart}
+use Rattle.kl_model.specs.Sound.{IsSoundField, IsSoundGraph, IsSoundName, IsSoundPiece, IsSoundTarget, StandApart}
 use Rattle.kl_model.specs.declared.graph.DynName.{DynName}
 use Rattle.kl_model.specs.declared.graph.Field.{Field}
 use Rattle.kl_model.specs.declared.graph.Piece.{Piece}
@@ -89,9 +89,20 @@ module _ (kit : Kit) (library : kit.kind ≡ Library) where
   field_sound (suc (suc (suc (suc (suc (suc (suc zero))))))) d l = field_is _ refl refl refl refl tt
   field_sound (suc (suc (suc (suc (suc (suc (suc (suc k)))))))) d l = absurd (omega arith)
 
-  name_sound : (k : ℕ) (d : DynName) → k < length NAMES → IfSome (get_or NAMES k d).exported (IsSoundTarget kit small_graph)
-  name_sound zero d l = tt
-  name_sound (suc zero) d l = tt
+  name_is : (d : DynName) → nat_lt d.input 1 ≡ true → nat_le d.name.len INPUT_BYTES_LIMIT ≡ true → nat_lt d.visibility 4 ≡ true → nat_lt d.kind 16 ≡ true
+      → d.size ≡ 0 → d.exported ≡ None → IsSoundName kit small_graph d
+  name_is d input short visibility kind empty none = record {
+    input = ltb-true _ _ input;
+    short = leb-true _ _ short;
+    visibility = ltb-true _ _ visibility;
+    kind = ltb-true _ _ kind;
+    size = rw empty (lit< tt);
+    exported = rw none tt;
+  }
+
+  name_sound : (k : ℕ) (d : DynName) → k < length NAMES → IsSoundName kit small_graph (get_or NAMES k d)
+  name_sound zero d l = name_is _ refl refl refl refl refl refl
+  name_sound (suc zero) d l = name_is _ refl refl refl refl refl refl
   name_sound (suc (suc k)) d l = absurd (omega arith)
 
   pub sound : IsSoundGraph kit small_graph
@@ -100,9 +111,10 @@ module _ (kit : Kit) (library : kit.kind ≡ Library) where
     fields = field_sound;
     apart = apart FIELDS spaced;
     entry = tt;
-    exported = name_sound;
+    names = name_sound;
     kernel = λ e. no_kernel (sym library ∙ e);
     piece_count = lit≤ tt;
     field_count = lit≤ tt;
+    name_count = lit≤ tt;
     input_count = lit≤ tt;
   }

@@ -1,9 +1,8 @@
 // Kernels of several objects, from the bytes of the objects to the bytes of the image.
 ghost use Rattle.std.specs.Prelude.{ℕ, ◌≡◌, ◌+◌, ◌<◌, ◌≤◌, ◌∷◌, [], length, map, All, AllPairs, IfOk, IfSome};
 ghost use Rattle.std.specs.Option.{option_copied};
-ghost use Rattle.kl_layout.specs.Spans.{AreGaps, IsGap};
 ghost use Rattle.std.specs.List.{range_with_len};
-ghost use Rattle.kl_model.specs.Fit.{IsFit, IsKit};
+ghost use Rattle.kl_model.specs.Fit.{AreGaps, IsFit, IsGap, IsKit};
 ghost use Rattle.kl_model.specs.Kept.{part_number};
 ghost use Rattle.kl_model.specs.Orders.{IsOrder, drawn_count};
 ghost use Rattle.kl_model.specs.declared.kit.KitKind.TheVariants.{Kernel};

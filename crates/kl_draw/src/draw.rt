@@ -1,7 +1,7 @@
 // Derived seeds, and what is drawn from them.
 ghost use Rattle.std.specs.Prelude.{◌≡◌, ◌+◌, ◌*◌, ◌%◌, ◌^◌, IfOk, IsPermutation};
 ghost use Rattle.std.specs.List.{range_with_len};
-ghost use Rattle.kl_layout.specs.Spans.{AreGaps, IsGap};
+ghost use Rattle.kl_model.specs.Fit.{AreGaps, IsGap};
 ghost use Rattle.kl_model.specs.Orders.{IsOrder};
 ghost use Rattle.kl_draw.specs.Drawn.{gap_of, gaps_from, order_from, shuffled_by, sub_seed};
 

@@ -6,7 +6,6 @@ use Rattle.std.specs.List.{position_from}
 use Rattle.std.proofs.lemmas.Bool.{cases_Bool}
 use Rattle.std.proofs.lemmas.List.Sums.{get_or-le-sum_by}
 use Rattle.kl_base.specs.declared.limits.TheConstants.{BASE_LIMIT, SPAN_LIMIT}
-use Rattle.kl_layout.specs.Spans.{AreGaps}
 use Rattle.kl_layout.proofs.PlacedWithin.{IsWithin, each_within, piece_within}
 use Rattle.kl_layout.proofs.RoomySpans.{roomy_span}
 use Rattle.kl_model.specs.Carries.{no_piece}
@@ -21,6 +20,7 @@ use Rattle.kl_model.specs.Relocations.{in_range, is_signed, is_slot_kind}
 use Rattle.kl_model.specs.Roomy.{CallIsNear, IsHigh, IsNear, IsRoomy, IsRoomyField, IsWide, NumberFits, SlotIsNear}
 use Rattle.kl_model.specs.Sizes.{made_of}
 use Rattle.kl_model.specs.Slots.{BySlot, Directly, same_target, slots, way}
+use Rattle.kl_model.specs.Fit.{AreGaps}
 use Rattle.kl_model.specs.Sound.{IsSoundField, IsSoundGraph, IsSoundTarget}
 use Rattle.kl_model.specs.declared.graph.Field.{Field}
 use Rattle.kl_model.specs.declared.graph.Graph.{Graph}

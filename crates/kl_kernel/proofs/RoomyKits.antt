@@ -2,9 +2,8 @@
 use Rattle.std.proofs.Common.{ℕ, ◌≡◌, ◌⊎◌, ◌∙◌, List, [], ◌∷◌, ◌++◌, refl, ap, map, sym, subst, inl, inr}
 use Rattle.std.specs.Prelude.{Option, Some, None, Result, IfErr, Ok, Err, IfSome, slice_get}
 use Rattle.std.specs.List.{AllByRecursion}
-use Rattle.kl_layout.specs.Spans.{AreGaps}
 use Rattle.kl_model.specs.Faults.{all_field_faults, clashes, doubled, graph_faults, link_fault, no_entry, range_faults, resolve_faults}
-use Rattle.kl_model.specs.Fit.{AreFit, IsKit}
+use Rattle.kl_model.specs.Fit.{AreFit, AreGaps, IsKit}
 use Rattle.kl_model.specs.Graphs.{graph}
 use Rattle.kl_model.specs.Laid.{span}
 use Rattle.kl_model.specs.Orders.{IsOrder, drawn_count}

@@ -1,8 +1,7 @@
 -- A roomy kit links wherever its names do.
 use Rattle.std.specs.Prelude.{ℕ, ◌≡◌, List, [], map, Option, IfSome}
-use Rattle.kl_layout.specs.Spans.{AreGaps}
 use Rattle.kl_model.specs.Faults.{graph_faults, resolve_faults}
-use Rattle.kl_model.specs.Fit.{AreFit, IsKit}
+use Rattle.kl_model.specs.Fit.{AreFit, AreGaps, IsKit}
 use Rattle.kl_model.specs.Graphs.{graph}
 use Rattle.kl_model.specs.Orders.{IsOrder, drawn_count}
 use Rattle.kl_model.specs.Roomy.{IsRoomy}

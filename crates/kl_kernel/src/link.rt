@@ -1,10 +1,9 @@
 // Links a kernel.
 ghost use Rattle.std.specs.Prelude.{◌≡◌, ◌⊎◌, None, Some, length, map, IfErr, IfOk, IfSome, OnOk};
 ghost use Rattle.std.specs.Option.{option_copied};
-ghost use Rattle.kl_layout.specs.Spans.{AreGaps};
 ghost use Rattle.kl_model.specs.Carries.{Carries};
 ghost use Rattle.kl_model.specs.Faults.{link_fault};
-ghost use Rattle.kl_model.specs.Fit.{AreFit, IsKit};
+ghost use Rattle.kl_model.specs.Fit.{AreFit, AreGaps, IsKit};
 ghost use Rattle.kl_model.specs.Graphs.{graph};
 ghost use Rattle.kl_model.specs.Orders.{IsOrder, drawn_count};
 ghost use Rattle.kl_model.specs.Roomy.{IsRoomy};

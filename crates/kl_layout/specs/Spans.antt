@@ -1,7 +1,6 @@
 -- When a graph is not laid out.
-use Rattle.std.specs.Prelude.{ℕ, ◌+◌, ◌*◌, ◌^◌, ◌≡◌, ◌<◌, ◌≤◌, if◌then◌else◌, nat_lt, Option, Some, None}
+use Rattle.std.specs.Prelude.{ℕ, ◌^◌, ◌≤◌, if◌then◌else◌, nat_lt, Option, Some, None}
 use Rattle.kl_base.specs.declared.limits.TheConstants.{SPAN_LIMIT}
-use Rattle.kl_model.specs.declared.place.Gaps.{Gaps}
 use Rattle.kl_model.specs.declared.place.Made.{Made}
 use Rattle.kl_layout.specs.declared.fault.LayoutFault.{LayoutFault}
 use Rattle.kl_layout.specs.declared.fault.LayoutFault.TheVariants as fault
@@ -11,16 +10,6 @@ use Rattle.kl_model.specs.declared.link.LinkFault.TheVariants as link
 -- the sizes of the areas that a linker makes, where it makes none
 abbrev pub no_made : Made
 no_made = record { stubs = 0; tables = 0; got = 0; dynamic = 0 }
-
--- gaps as they are drawn: each is a multiple of 16 bytes, from 16 to 16 * 2 ^ 14
-abbrev pub IsGap : ℕ → Type 0
-IsGap n = (m : ℕ) × (m < 2 ^ 14) × (n ≡ 16 * (m + 1))
-
-pub record AreGaps (z : Gaps) : Type 0 where
-  pub text : IsGap z.text
-  pub rodata : IsGap z.rodata
-  pub rwdata : IsGap z.rwdata
-  pub bss : IsGap z.bss
 
 -- made areas of at most 2 ^ 56 bytes each
 pub record AreSmall (made : Made) : Type 0 where

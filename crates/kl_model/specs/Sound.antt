@@ -22,7 +22,7 @@ use Rattle.kl_model.specs.declared.graph.Target.TheVariants.{Place, Abs, Edge, N
 use Rattle.kl_model.specs.declared.kit.Kit.{Kit}
 use Rattle.kl_model.specs.declared.kit.KitKind.TheVariants.{Kernel}
 use Rattle.kl_model.specs.declared.area.TheConstants as area
-use Rattle.kl_base.specs.declared.limits.TheConstants.{ALIGN_POWER_LIMIT, FIELD_COUNT_LIMIT, INPUT_COUNT_LIMIT, SECTION_COUNT_LIMIT, SIZE_LIMIT, SYMBOL_COUNT_LIMIT}
+use Rattle.kl_base.specs.declared.limits.TheConstants.{ALIGN_POWER_LIMIT, FIELD_COUNT_LIMIT, INPUT_BYTES_LIMIT, INPUT_COUNT_LIMIT, SECTION_COUNT_LIMIT, SIZE_LIMIT, SYMBOL_COUNT_LIMIT}
 
 -- the areas of a class's runs
 abbrev pub run_areas : Kit → Class → List ℕ
@@ -74,14 +74,24 @@ pub record IsSoundField (kit : Kit) (g : Graph) (f : Field) : Type 0 where
 abbrev pub StandApart : Field → Field → Type 0
 StandApart f h = f.piece ≡ h.piece → (f.offset + width f.kind ≤ h.offset) ⊎ (h.offset + width h.kind ≤ f.offset)
 
+-- a dynamic name: its text and its input are those of a symbol, and its numbers fit an entry of the symbol table (gABI, `Elf64_Sym`)
+pub record IsSoundName (kit : Kit) (g : Graph) (d : DynName) : Type 0 where
+  pub input : d.input < length g.parts
+  pub short : d.name.len ≤ INPUT_BYTES_LIMIT
+  pub visibility : d.visibility < 2 ^ 2
+  pub kind : d.kind < 2 ^ 4
+  pub size : d.size < 2 ^ 64
+  pub exported : IfSome d.exported (IsSoundTarget kit g)
+
 -- A SOUND GRAPH
 pub record IsSoundGraph (kit : Kit) (g : Graph) : Type 0 where
   pub pieces : All (IsSoundPiece kit g) g.pieces
   pub fields : All (IsSoundField kit g) g.fields
   pub apart : AllPairs StandApart g.fields
   pub entry : IfSome g.entry (IsSoundTarget kit g)
-  pub exported : All (λ d. IfSome d.exported (IsSoundTarget kit g)) g.names
+  pub names : All (IsSoundName kit g) g.names
   pub kernel : kit.kind ≡ Kernel → g.names ≡ []
   pub piece_count : length g.pieces ≤ SECTION_COUNT_LIMIT + SYMBOL_COUNT_LIMIT
   pub field_count : length g.fields ≤ FIELD_COUNT_LIMIT
+  pub name_count : length g.names ≤ SYMBOL_COUNT_LIMIT
   pub input_count : length g.parts ≤ INPUT_COUNT_LIMIT

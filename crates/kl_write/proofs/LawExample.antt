@@ -8,7 +8,7 @@ use Rattle.kl_model.specs.Image.{image_bytes}
 use Rattle.kl_model.specs.Laid.{Laid}
 use Rattle.kl_model.specs.Placed.{placed}
 use Rattle.kl_model.specs.Sizes.{made_of}
-use Rattle.kl_model.specs.Sound.{IsSoundField, IsSoundGraph, IsSoundPiece, IsSoundTarget}
+use Rattle.kl_model.specs.Sound.{IsSoundField, IsSoundGraph, IsSoundName, IsSoundPiece}
 use Rattle.kl_model.specs.declared.graph.DynName.{DynName}
 use Rattle.kl_model.specs.declared.place.AreaAt.{AreaAt}
 use Rattle.kl_base.specs.declared.class.Class.TheVariants.{Text}
@@ -49,10 +49,11 @@ sound = record {
   fields = one (IsSoundField kit g) call (record { piece = omega arith; wide = omega arith; inside = omega arith; class = λ e. cc; addend = grind arith; target = (omega arith, omega arith) });
   apart = λ i j d h l. absurd (omega arith);
   entry = (omega arith, omega arith);
-  exported = all_none (λ (n : DynName). IfSome n.exported (IsSoundTarget kit g));
+  names = all_none (IsSoundName kit g);
   kernel = λ e. refl;
   piece_count = omega arith;
   field_count = omega arith;
+  name_count = omega arith;
   input_count = omega arith;
 }
 

@@ -28,9 +28,10 @@ returns-clause-sound c =
       fields = λ k d l. absurd (omega (arith, no_fields, l));
       apart = λ i j d h l. absurd (omega (arith, no_fields, l));
       entry = tt;
-      exported = λ k d l. absurd (omega (arith, no_names, l));
+      names = λ k d l. absurd (omega (arith, no_names, l));
       kernel = λ e. c.new-2.ensures;
       piece_count = omega (arith, c.loop-input.invariant.count, c.loop-input.auto.input-end, few);
       field_count = omega (arith, no_fields);
+      name_count = omega (arith, no_names);
       input_count = omega (arith, parts, count, few);
     }
