@@ -1,15 +1,19 @@
 -- What a link leaves.
-use Rattle.std.specs.Prelude.{ℕ, ◌≡◌, List, [], replicate, None}
+use Rattle.std.specs.Prelude.{ℕ, ◌≡◌, List, [], length, None}
+use Rattle.sha2.specs.Sha256.{sha256}
 use Rattle.kl_store.specs.Names.{Names}
 use Rattle.kl_model.specs.Carries.{Carries}
 use Rattle.kl_model.specs.Fit.{AreFit, IsKit}
+use Rattle.kl_model.specs.Graphs.{graph}
 use Rattle.kl_model.specs.declared.kit.Kit.{Kit}
 use Rattle.kl_model.specs.declared.kit.KitKind.TheVariants.{Kernel}
 use Rattle.kl_model.specs.declared.object.Input.{Input}
 use Rattle.kl_model.specs.declared.place.Placement.{Placement}
 use Rattle.kl_map.specs.MapText.{map_text}
-use Rattle.kl_jobs.specs.Reading.{in_turn, inputs_in, kit_in, kit_order, lines_refusal, text_refusal}
+use Rattle.kl_jobs.specs.Reading.{inputs_in, kit_in, kit_order, lines_refusal, text_refusal}
+use Rattle.kl_jobs.specs.Seeds.{gaps_of, order_of}
 use Rattle.kl_jobs.specs.Writing.{IsPutPair}
+use Rattle.kl_jobs.specs.declared.report.Report.{Report}
 
 -- the kit and the inputs of a folder, as its files say: nothing stands against them
 pub record IsKitOf (m : Names) (dir : List ℕ) (kit : Kit) (inputs : List Input) : Type 0 where
@@ -24,18 +28,29 @@ pub record IsLinkable (kit : Kit) (inputs : List Input) : Type 0 where
   pub kernel : kit.kind ≡ Kernel
   pub fit : AreFit inputs
 
--- an image and a map text of a kit: of one placement, which carries the kit in kit order without gaps
-pub record AreLinked (kit : Kit) (inputs : List Input) (image map : List ℕ) : Type 0 where
-  pub placement : Placement
-  pub carries : Carries image placement kit inputs None (in_turn inputs)
-  pub map_is : map ≡ map_text (record { output = kit.output; seed = replicate 32 0; placement = placement })
+-- WHAT IS TOLD of an image of a kit: the numbers of its graph, its length and its digest
+abbrev pub report_of : Kit → List Input → List ℕ → Report
+report_of kit inputs image = record {
+  pieces = length (graph kit inputs).pieces;
+  fields = length (graph kit inputs).fields;
+  bytes = length image;
+  digest = sha256 image;
+}
 
--- After a link the image name holds an image of the folder's kit and the map name its map. All other names hold what they held.
-pub record IsLinked (dir : List ℕ) (m n : Names) : Type 0 where
+-- AN IMAGE AND A MAP TEXT OF A KIT under a seed: of one placement, which carries the kit in the drawn order and with the drawn gaps
+pub record AreLinked (seed : List ℕ) (kit : Kit) (inputs : List Input) (image map : List ℕ) : Type 0 where
+  pub placement : Placement
+  pub carries : Carries image placement kit inputs (gaps_of seed kit) (order_of seed kit inputs)
+  pub map_is : map ≡ map_text (record { output = kit.output; seed = seed; placement = placement })
+
+-- After a link the image name holds an image of the folder's kit and the map name its map, and this is what is told of the image.
+-- All other names hold what they held.
+pub record IsLinked (dir seed : List ℕ) (report : Report) (m n : Names) : Type 0 where
   pub kit : Kit
   pub inputs : List Input
   pub image : List ℕ
   pub map : List ℕ
   pub reads : IsKitOf m dir kit inputs
-  pub linked : AreLinked kit inputs image map
+  pub linked : AreLinked seed kit inputs image map
+  pub told : report ≡ report_of kit inputs image
   pub written : IsPutPair dir image map m n
