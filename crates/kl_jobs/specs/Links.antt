@@ -1,7 +1,12 @@
 -- What a link leaves.
-use Rattle.std.specs.Prelude.{ℕ, ◌≡◌, List, [], length, None}
+use Rattle.std.specs.Prelude.{ℕ, ◌≡◌, List, [], length, Option, None}
+use Rattle.std.specs.Option.{ForSome}
 use Rattle.sha2.specs.Sha256.{sha256}
 use Rattle.kl_store.specs.Names.{Names}
+use Rattle.kl_store.specs.Disk.{names_now}
+use Rattle.kl_store.specs.Meaning.{Meaning}
+use Rattle.kl_store.specs.Images.{IsSettledAt}
+use Rattle.kl_store.specs.Outside.{Blocks}
 use Rattle.kl_model.specs.Carries.{Carries}
 use Rattle.kl_model.specs.Fit.{AreFit, IsKit}
 use Rattle.kl_model.specs.Graphs.{graph}
@@ -11,7 +16,7 @@ use Rattle.kl_model.specs.declared.object.Input.{Input}
 use Rattle.kl_model.specs.declared.place.Placement.{Placement}
 use Rattle.kl_map.specs.MapText.{map_text}
 use Rattle.kl_jobs.specs.Reading.{inputs_in, kit_in, kit_order, lines_refusal, text_refusal}
-use Rattle.kl_jobs.specs.Seeds.{gaps_of, order_of}
+use Rattle.kl_jobs.specs.Seeds.{IsSeed, gaps_of, order_of}
 use Rattle.kl_jobs.specs.Writing.{IsPutPair}
 use Rattle.kl_jobs.specs.declared.report.Report.{Report}
 
@@ -54,3 +59,9 @@ pub record IsLinked (dir seed : List ℕ) (report : Report) (m n : Names) : Type
   pub linked : AreLinked seed kit inputs image map
   pub told : report ≡ report_of kit inputs image
   pub written : IsPutPair dir image map m n
+
+-- a link under the seed that was used, stable on the disk where the store tells it
+pub record LinksUnder (dir : List ℕ) (given : Option (List ℕ)) (b0 b1 : Blocks) (before now : Meaning) (report : Report) : Type 0 where
+  pub seed : List ℕ
+  pub drawn : IsSeed given b0 b1 seed
+  pub linked : ForSome before.disk (λ d. IsSettledAt now.disk (IsLinked dir seed report (names_now d)))

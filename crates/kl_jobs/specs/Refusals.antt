@@ -25,16 +25,28 @@ inputs_refusal m dir kit seed =
 abbrev pub late_refusal : Names → List ℕ → List ℕ → Option Cause
 late_refusal m dir seed = inputs_refusal m dir (kit_in m dir) seed
 
--- A cause that no file shows: want of memory, or a fault of the store or of the source of random bytes.
+-- A cause that no file shows: want of memory, or a fault of the store; and of a job that asks for a seed also one of the source of
+-- random bytes.
 abbrev pub IsOutside : Cause → Type 0
-IsOutside c = (c ≡ NoMemory) ⊎ ((c ≡ Store) ⊎ (c ≡ Entropy))
+IsOutside c = (c ≡ NoMemory) ⊎ (c ≡ Store)
 
--- neither that all was done nor that the words are no command
+abbrev pub IsOutsideJob : Cause → Type 0
+IsOutsideJob c = IsOutside c ⊎ (c ≡ Entropy)
+
+-- why a file isn't read or a kit isn't linked: nothing of the words, of the source of random bytes or of the sink
 abbrev pub IsRefusal : Cause → Type 0
 IsRefusal Done = ⊥
 IsRefusal Usage = ⊥
+IsRefusal Entropy = ⊥
 IsRefusal Sink = ⊥
 IsRefusal _ = Unit {0}
+
+-- why a job ends: nothing of the words or of the sink
+abbrev pub IsJobRefusal : Cause → Type 0
+IsJobRefusal Done = ⊥
+IsJobRefusal Usage = ⊥
+IsJobRefusal Sink = ⊥
+IsJobRefusal _ = Unit {0}
 
 -- a cause that is outside, or where the store tells its names a refusal that stands in them
 abbrev pub Refuses : Meaning → (Names → Option Cause) → Cause → Type 0
@@ -50,4 +62,4 @@ pub record EndsUnder (given : Option (List ℕ)) (before now : Blocks) (early : 
 -- a cause that is outside, or the first that stands: before a seed is asked for, or under the seed that was used
 abbrev pub RefusesJob : Option (List ℕ) → Blocks → Blocks → Meaning → (Names → Option Cause) → (Names → List ℕ → Option Cause) → Cause → Type 0
 RefusesJob given b0 b1 before early late c =
-    ForSome before.names (λ m. IsOutside c ⊎ ((early m ≡ Some c) ⊎ EndsUnder given b0 b1 (early m) (late m) (Some c)))
+    ForSome before.names (λ m. IsOutsideJob c ⊎ ((early m ≡ Some c) ⊎ EndsUnder given b0 b1 (early m) (late m) (Some c)))

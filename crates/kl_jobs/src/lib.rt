@@ -6,6 +6,9 @@ mod display;
 mod files;
 mod link;
 mod reading;
+mod report;
+mod seed;
 
 pub use cause::{Cause, KitCause, ObjectCause, TotalOf};
 pub use link::link_only;
+pub use report::Report;
