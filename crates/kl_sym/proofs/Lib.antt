@@ -9,6 +9,7 @@ pub mod KeptPieces
 pub mod PieceAreas
 pub mod SoundTargets
 pub mod SoundPieces
+pub mod SoundNames
 pub mod SoundFields
 pub mod RunSteps
 pub mod SortedNames

@@ -1,7 +1,7 @@
 -- The fields of any kit and fit inputs lie in their pieces, apart, and lead to numbers that are in their lists; with the pieces
 -- the whole graph is sound.
 use Rattle.std.proofs.Common.{ℕ, zero, suc, ◌≡◌, ◌+◌, ◌<◌, ◌≤◌, ◌∙◌, List, [], ◌∷◌, ◌++◌, length, get_or, map, refl, ap, subst, arith, Bool, true, false, not, ◌||◌, cond, inl, inr, ◌⊎◌, length-append, eqb-true}
-use Rattle.std.specs.Prelude.{Some, None, Option, ◌==◌, All, AllPairs, IfSome, Result, Ok, Err, find, filter, codes, is_some, nat_lt, sum_by, unwrap_or}
+use Rattle.std.specs.Prelude.{Some, None, Option, ◌==◌, All, AllPairs, IfSome, Result, Ok, Err, find, filter, codes, is_some, nat_lt, unwrap_or}
 use Rattle.std.specs.Option.{option_and_then}
 use Rattle.std.specs.Result.{result_unwrap_or}
 use Rattle.std.specs.List.{list_all, list_any}
@@ -9,14 +9,12 @@ use Rattle.std.specs.Str.{bytes_eq}
 use Rattle.std.proofs.lemmas.Bool.{cases_Bool, cases_lt, eqb-false, ltb-true, ne_eqb}
 use Rattle.std.proofs.lemmas.Cmp.{nat_list_eq_equiv}
 use Rattle.std.proofs.lemmas.List.{get_or_default, length-map}
-use Rattle.std.proofs.lemmas.List.Elements.{All-map}
-use Rattle.std.proofs.lemmas.List.Sums.{sum_by-cons}
 use Rattle.std.proofs.lemmas.Map.Views.{any-filter_same}
 use Rattle.kl_base.proofs.Bools.{and_left, and_right, equal_bytes, not_true, or_right}
 use Rattle.kl_base.specs.declared.limits.TheConstants.{FIELD_COUNT_LIMIT, SECTION_COUNT_LIMIT, SYMBOL_COUNT_LIMIT}
 use Rattle.kl_elf.specs.declared.abi.TheConstants.{R_X86_64_NONE, SHN_ABS, SHN_COMMON, SHT_NOBITS, STB_LOCAL, STB_WEAK}
 use Rattle.kl_le.specs.Bytes.{Within}
-use Rattle.kl_model.specs.Lists.{among, each, once, only_if}
+use Rattle.kl_model.specs.Lists.{among, only_if}
 use Rattle.kl_model.specs.Texts.{text_at}
 use Rattle.kl_model.specs.Kept.{input_at, is_kept, name_at, no_input, no_symbol}
 use Rattle.kl_model.specs.Names.{Occurrence, common_names, definition, holds_common, occurrences, piece_number, sorted_names}
@@ -43,8 +41,9 @@ use Rattle.kl_model.proofs.StandOnce.{names_are}
 use Rattle.kl_sym.proofs.FieldTargets.{field_faults_of, no_entry_at}
 use Rattle.kl_sym.proofs.KeptPieces.{kept_known, number-lt, piece_there, same_piece}
 use Rattle.kl_sym.proofs.PieceNumbers.{only_if-le, sum_by-ones}
+use Rattle.kl_sym.proofs.SoundNames.{filter-short, name_count, names_sound, occurrence_count, once-short, ones}
 use Rattle.kl_sym.proofs.SoundPieces.{any_in, bss_blank, parts_count, pieces_sound}
-use Rattle.kl_sym.proofs.SoundTargets.{EdgesKnown, definition_sound, length-ones, number_known, own_sound, place_sound, position-any}
+use Rattle.kl_sym.proofs.SoundTargets.{EdgesKnown, definition_sound, length-ones, number_known, place_sound, position-any}
 
 -- A TYPE THAT IS LINKED HAS A WIDTH, but for R_X86_64_NONE
 passes_found : {X : Type 0} (p q : X → Bool) (xs : List X) (x : X) → list_all p xs ≡ true → find q xs ≡ Some x → (p x ≡ true) × (q x ≡ true)
@@ -69,18 +68,6 @@ linked_width kind linked some = go (relocation_type kind) refl linked
         let none : (row.number == R_X86_64_NONE) ≡ false = rw number some in
         let wide : 0 < row.width = ltb-true 0 row.width (or_right (row.number == R_X86_64_NONE) _ both.0 none) in
         rw e wide
-
-pub ones : {X : Type 0} (xs : List X) → sum_by (λ x. 1) xs ≡ length xs
-ones [] = refl
-ones (x ∷ xs) = omega (arith, sum_by-cons (λ y. 1) x xs, ones xs)
-
-filter-short : {X : Type 0} (p : X → Bool) (xs : List X) → length (filter p xs) ≤ length xs
-filter-short p [] = omega arith
-filter-short p (x ∷ xs) = elim (cases_Bool (p x)) [ inl a ↦ rw a (omega (arith, filter-short p xs)) | inr a ↦ rw a (omega (arith, filter-short p xs)) ]
-
-once-short : (xs : List (List ℕ)) → length (once bytes_eq xs) ≤ length xs
-once-short [] = omega arith
-once-short (x ∷ xs) = omega (arith, once-short xs, filter-short (λ y. not (bytes_eq x y)) (once bytes_eq xs))
 
 get_left : {X : Type 0} (xs ys : List X) (n : ℕ) (d : X) → n < length xs → get_or (xs ++ ys) n d ≡ get_or xs n d
 get_left [] ys n d h = absurd (omega arith)
@@ -132,9 +119,6 @@ module _ (kit : Kit) (inputs : List Input) (fit : AreFit inputs) where
     where
       passed : (n : List ℕ) → name ≡ n → (is_exported kit inputs n || is_imported kit inputs n) ≡ true
       passed n same = subst (λ n. (is_exported kit inputs n || is_imported kit inputs n) ≡ true) same shown
-
-  exported_sound : All (λ d. IfSome d.exported (IsSoundTarget kit (graph kit inputs))) (map (dyn_name kit inputs) (dynamic_names kit inputs))
-  exported_sound = All-map (λ d. IfSome d.exported (IsSoundTarget kit (graph kit inputs))) (dyn_name kit inputs) (dynamic_names kit inputs) (λ k d h. own_sound kit inputs fit _)
 
   -- A FIELD OF A KEPT SECTION
   module _ (i k : ℕ) (h : i < length inputs) (l : k < length (input_at inputs i).object.fields) where
@@ -333,25 +317,13 @@ module _ (kit : Kit) (inputs : List Input) (fit : AreFit inputs) where
       let limit = fit.sections in
       omega arith
 
-  abbrev occurrence_in : ℕ → Input → ℕ → Symbol → List Occurrence
-  occurrence_in i x y s = only_if (not (s.binding == STB_LOCAL)) (record { input = i; number = y; name = text_at x.bytes s.name; symbol = s })
-
-  abbrev occurrences_in : ℕ → Input → List Occurrence
-  occurrences_in i x = each x.object.symbols (occurrence_in i x)
-
-  few_occur : (i : ℕ) (x : Input) → length (occurrences_in i x) ≤ length x.object.symbols
-  few_occur i x =
-      let one = length-each-le 0 (occurrence_in i x) (λ s. 1) x.object.symbols (λ y s. only_if-le (not (s.binding == STB_LOCAL)) (record { input = i; number = y; name = text_at x.bytes s.name; symbol = s })) in
-      omega (arith, one, ones x.object.symbols)
-
   common_count : length (common_pieces kit inputs) ≤ SYMBOL_COUNT_LIMIT
   common_count =
       let pieces : length (common_pieces kit inputs) ≡ length (common_names kit inputs) = length-ones 0 _ (common_names kit inputs) in
       let names = once-short (map (λ (o : Occurrence). o.name) (filter (holds_common kit inputs) (occurrences inputs))) in
       let mapped = length-map (filter (holds_common kit inputs) (occurrences inputs)) (λ (o : Occurrence). o.name) in
       let kept = filter-short (holds_common kit inputs) (occurrences inputs) in
-      let many : length (occurrences inputs) ≤ sum_by (λ x. length x.object.symbols) inputs = length-each-le 0 occurrences_in (λ x. length x.object.symbols) inputs few_occur in
-      let limit = fit.symbols in
+      let limit = occurrence_count kit inputs fit in
       omega arith
 
   -- A SOUND GRAPH
@@ -362,10 +334,11 @@ module _ (kit : Kit) (inputs : List Input) (fit : AreFit inputs) where
     fields = all_fields sound (IsSoundField kit (graph kit inputs)) (λ i k h l kept. entry_sound i k h l kept known sound);
     apart = fields_apart sound;
     entry = entry_sound_of kit.entry;
-    exported = exported_sound;
+    names = names_sound kit inputs fit;
     kernel = λ kernel. rw (no_dynamic_names kit kernel inputs) refl;
     piece_count = (let all = length-append (section_pieces kit inputs) (common_pieces kit inputs) in let a = section_count in let b = common_count in omega arith);
     field_count = field_count;
+    name_count = name_count kit inputs fit;
     input_count = (let n = parts_count kit inputs fit in let few = fit.count in omega arith);
   }
     where

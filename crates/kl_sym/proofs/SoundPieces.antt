@@ -118,25 +118,26 @@ module _ (kit : Kit) (inputs : List Input) (fit : AreFit inputs) where
         short true = omega arith
         short false = omega arith
 
+  -- the symbols of a name, and the size of the commons among them
+  pub occur : (name : List ℕ) → All (IsOccurrence inputs) (occurrences_of inputs name)
+  occur name = All-filter (λ o. bytes_eq o.name name) (IsOccurrence inputs) (occurrences inputs) (all_occur kit inputs fit)
+
+  pub common_small : (name : List ℕ) → common_size inputs name ≤ SIZE_LIMIT
+  common_small name = max_small 0 SIZE_LIMIT (commons_of inputs name) (omega arith)
+      (passing inputs (λ o. o.symbol.size ≤ SIZE_LIMIT) is_common (occurrences_of inputs name) (λ o is e. is.fits.size (eqb-true o.symbol.section SHN_COMMON e)) (occur name))
+
   commons_sound : All (IsSoundPiece kit (graph kit inputs)) (common_pieces kit inputs)
   commons_sound =
       each-all (IsSoundPiece kit (graph kit inputs)) 0 _ (common_names kit inputs) (λ k d h. All-cons (IsSoundPiece kit (graph kit inputs)) _ []
       (record {
         origin = (refl, refl);
         area = refl;
-        size = small (get_or (common_names kit inputs) k d);
+        size = common_small (get_or (common_names kit inputs) k d);
         align = power (get_or (common_names kit inputs) k d);
         short = omega arith;
         blank = λ e. refl;
       }) (λ j e m. absurd (omega arith)))
     where
-      occur : (name : List ℕ) → All (IsOccurrence inputs) (occurrences_of inputs name)
-      occur name = All-filter (λ o. bytes_eq o.name name) (IsOccurrence inputs) (occurrences inputs) (all_occur kit inputs fit)
-
-      small : (name : List ℕ) → common_size inputs name ≤ SIZE_LIMIT
-      small name = max_small 0 SIZE_LIMIT (commons_of inputs name) (omega arith)
-          (passing inputs (λ o. o.symbol.size ≤ SIZE_LIMIT) is_common (occurrences_of inputs name) (λ o is e. is.fits.size (eqb-true o.symbol.section SHN_COMMON e)) (occur name))
-
       power : (name : List ℕ) → (k : ℕ) × (k ≤ ALIGN_POWER_LIMIT) × (common_align inputs name ≡ 2 ^ k)
       power name = max_power 1 (commons_of inputs name) (0, omega arith, refl)
           (passing inputs (λ o. IsAlignment o.symbol.value) is_common (occurrences_of inputs name) (λ o is e. is.fits.align (eqb-true o.symbol.section SHN_COMMON e)) (occur name))
