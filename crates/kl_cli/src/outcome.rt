@@ -1,6 +1,6 @@
 // What was done.
 use kl_base::Name;
-use kl_jobs::Report;
+use kl_link::Report;
 
 /// What a command did.
 #[derive(Clone, Copy, Debug, PartialEq, Eq)]

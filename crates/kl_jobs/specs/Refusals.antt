@@ -4,18 +4,18 @@ use Rattle.std.specs.Option.{ForSome, option_map, option_or}
 use Rattle.kl_store.specs.Names.{Names}
 use Rattle.kl_store.specs.Meaning.{Meaning}
 use Rattle.kl_store.specs.Outside.{Blocks}
-use Rattle.kl_model.specs.Faults.{link_fault}
+use Rattle.kl_link.specs.Links.{fault_of}
 use Rattle.kl_model.specs.declared.kit.Kit.{Kit}
 use Rattle.kl_model.specs.declared.object.Input.{Input}
 use Rattle.kl_jobs.specs.Reading.{inputs_in, kit_in, kit_order, lines_refusal, text_refusal}
-use Rattle.kl_jobs.specs.Seeds.{IsSeed, gaps_of, order_of}
+use Rattle.kl_jobs.specs.Seeds.{IsSeed}
 use Rattle.kl_jobs.specs.declared.cause.Cause.{Cause}
 use Rattle.kl_jobs.specs.declared.cause.Cause.TheVariants.{Done, Usage, NoMemory, Store, Entropy, Sink}
 use Rattle.kl_jobs.specs.declared.cause.Cause.TheVariants as cause
 
 -- the first refusal of a kit whose inputs are read, under a seed
 abbrev pub kit_refusal : List ℕ → Kit → List Input → Option Cause
-kit_refusal seed kit inputs = option_map cause.Link (link_fault kit inputs (gaps_of seed kit) (order_of seed kit inputs))
+kit_refusal seed kit inputs = option_map cause.Link (fault_of seed kit inputs)
 
 -- THE FIRST REFUSAL BEHIND THE KIT TEXT that stands in the files of a kit, under a seed: of its inputs in kit order, of its link
 abbrev pub inputs_refusal : Names → List ℕ → Kit → List ℕ → Option Cause

@@ -1,13 +1,6 @@
--- The seed of a command, and what it draws for a kit.
-use Rattle.std.specs.Prelude.{ℕ, ◌≡◌, ◌⊎◌, List, codes, map, Option, Some, None}
-use Rattle.kl_draw.specs.Drawn.{gaps_from, order_from, sub_seed}
+-- The seed of a command.
+use Rattle.std.specs.Prelude.{ℕ, ◌≡◌, ◌⊎◌, List, Option, Some, None}
 use Rattle.kl_store.specs.Outside.{Blocks, Gives, GivesNone}
-use Rattle.kl_model.specs.Orders.{drawn_count}
-use Rattle.kl_model.specs.declared.kit.Kit.{Kit}
-use Rattle.kl_model.specs.declared.kit.KitKind.{KitKind}
-use Rattle.kl_model.specs.declared.kit.KitKind.TheVariants.{Kernel, Library}
-use Rattle.kl_model.specs.declared.object.Input.{Input}
-use Rattle.kl_model.specs.declared.place.Gaps.{Gaps}
 
 -- THE SEED of a command: the given one, or else the block that the source of random bytes gave in this call
 abbrev pub IsSeed : Option (List ℕ) → Blocks → Blocks → List ℕ → Type 0
@@ -23,15 +16,3 @@ Draws None before now = GivesNone before now ⊎ ((block : List ℕ) × Gives be
 pub record NoneDrawn (given : Option (List ℕ)) (before now : Blocks) : Type 0 where
   pub ungiven : given ≡ None
   pub untaken : GivesNone before now
-
--- THE DRAWN ORDER of a kit's drawn inputs, under the name of its output
-abbrev pub order_of : List ℕ → Kit → List Input → List ℕ
-order_of seed kit inputs = order_from (sub_seed seed kit.output (codes "order")) (drawn_count (map (λ x. x.place) inputs))
-
--- THE DRAWN GAPS of a kernel; a library has none
-abbrev pub gaps_for : KitKind → List ℕ → Option Gaps
-gaps_for Kernel sub = Some (gaps_from sub)
-gaps_for Library sub = None
-
-abbrev pub gaps_of : List ℕ → Kit → Option Gaps
-gaps_of seed kit = gaps_for kit.kind (sub_seed seed kit.output (codes "gaps"))

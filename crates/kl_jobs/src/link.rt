@@ -1,52 +1,36 @@
 // `link DIR`: one kit, linked into the kit's own folder.
 ghost use Rattle.std.specs.Prelude.{◌≡◌, ◌≢◌, ◌≤◌, ◌<◌, ◌-◌, ◌^◌, ◌⊎◌, None, Some, length, map, IfOk, IfErr, OnOk, IsErrOf};
 ghost use Rattle.std.specs.Option.{ForSome};
-ghost use Rattle.sha2.specs.Sha256.{sha256 as digest_of};
 ghost use Rattle.kl_store.specs.Calls.{HasCause, Rose, Stays};
 ghost use Rattle.kl_store.specs.Files.{HasFiles, SameFiles};
 ghost use Rattle.kl_store.specs.Images.{Ends, LeavesOfDisk};
 ghost use Rattle.kl_model.specs.Fit.{IsKit};
-ghost use Rattle.kl_model.specs.Orders.{drawn_count};
 ghost use Rattle.kl_model.specs.declared.kit.KitKind.TheVariants.{Kernel};
 ghost use Rattle.kl_kit.specs.Forms.{HasFile};
 ghost use Rattle.std.specs.List.{AllByRecursion};
 ghost use Rattle.kl_jobs.specs.Reading.{inputs_in, kit_order as lines_in_kit_order, lines_refusal, text_refusal};
 ghost use Rattle.kl_jobs.specs.Refusals.{EndsUnder, IsJobRefusal, IsRefusal, Refuses, RefusesJob, kit_refusal, late_refusal};
 ghost use Rattle.kl_jobs.specs.Seeds.{Draws, NoneDrawn};
-ghost use Rattle.kl_jobs.specs.Links.{AreLinked, IsLinkable, LinksUnder, report_of};
+ghost use Rattle.kl_jobs.specs.Links.{LinksUnder};
+ghost use Rattle.kl_link.specs.Links.{AreLinked, IsLinkable, report_of};
 ghost use Rattle.kl_jobs.specs.Writing.{IsPutPair};
 ghost use Rattle.kl_base.specs.declared.limits.TheConstants.{FILE_LIMIT};
 
 use crate::cause::Cause;
 use crate::files::file_in;
 use crate::reading::{kit_order, read_inputs, read_text};
-use crate::report::Report;
 use crate::seed::draw_seed;
 use kl_base::Name;
-use kl_digest::sha256;
-use kl_draw::{draw_gaps, draw_order, sub_seed};
-use kl_kernel::link_kernel;
-use kl_map::{Map, print_map};
-use kl_model::{Input, Kit, LinkFault, Linked, Part};
+use kl_link::{LinkedKit, Report, link_kit};
+use kl_model::{Input, Kit, LinkFault};
 use kl_store::{Entropy, Failed, Store, write_whole};
 use std::alloc::Global;
-
-/// How many gaps a kernel has: one for each class.
-const GAPS: usize = 4;
 
 /// A kit and its inputs in kit order.
 #[derive(Drop)]
 struct Source {
     kit: Kit,
     inputs: Vec<Input>,
-}
-
-/// An image, the text of its map, and what is told of it.
-#[derive(Drop)]
-struct Output {
-    image: Vec<u8>,
-    map: Vec<u8>,
-    report: Report,
 }
 
 /// Links the kit whose text is `DIR/link.conf`, in the order and with the gaps that are drawn from the seed: writes the image to
@@ -87,75 +71,28 @@ pub fn link_only<S: Store, E: Entropy>(
         return Err(Cause::Entropy);
     };
     let source = read_source(alloc, dir, kit, store)?;
-    let output = link_source(alloc, &source, &seed)?;
-    write_pair(store, dir, &output.image, &output.map)?;
-    Ok(output.report)
+    let linked = link_source(alloc, &source, &seed)?;
+    write_pair(store, dir, &linked.image, &linked.map)?;
+    Ok(linked.report)
 }
 
-/// How many inputs are drawn.
-fn count_drawn(inputs: &[Input]) -> usize
-    ensures count { result ≡ drawn_count (map (λ x. x.place) inputs.now) }
-    ensures few { result ≤ length inputs.now }
-{
-    let mut count = 0;
-    for input in inputs {
-        if input.place == Part::Drawn {
-            count += 1;
-        }
-    }
-    count
-}
-
-/// What is told of a kernel's image.
-fn report(linked: &Linked) -> Report
-    requires gaps { GAPS ≤ length linked.now.placement.pieces }
-    requires few { length linked.now.placement.pieces < 2 ^ 32 }
-    ensures pieces { result.pieces ≡ length linked.now.placement.pieces - GAPS }
-    ensures fields { result.fields ≡ linked.now.fields }
-    ensures bytes { result.bytes ≡ length linked.now.image.items }
-    ensures digest { result.digest ≡ digest_of linked.now.image.items }
-{
-    Report {
-        pieces: (linked.placement.pieces.items().len() - GAPS) as u32,
-        fields: linked.fields,
-        bytes: linked.image.len() as u64,
-        digest: sha256(&linked.image),
-    }
-}
-
-/// The image of a kit under a seed, the text of its map, and what is told of it.
+/// The image of a kit under a seed, its map, and what is told of it.
 ///
 /// # Errors
 ///
 /// `Link` with the first fault of the kit, and `NoMemory`.
-fn link_source(alloc: Global, source: &Source, seed: &[u8; 32]) -> Result<Output, Cause>
+fn link_source(alloc: Global, source: &Source, seed: &[u8; 32]) -> Result<LinkedKit, Cause>
     requires { IsLinkable source.now.kit source.now.inputs.items }
-    ensures linked { IfOk result (λ o. AreLinked seed.now source.now.kit source.now.inputs.items o.image.items o.map.items) }
-    ensures told { IfOk result (λ o. o.report ≡ report_of source.now.kit source.now.inputs.items o.image.items) }
+    ensures linked { IfOk result (λ l. AreLinked seed.now source.now.kit source.now.inputs.items l.image.items l.map.items) }
+    ensures told { IfOk result (λ l. l.report ≡ report_of source.now.kit source.now.inputs.items l.image.items) }
     ensures sound { OnOk result (kit_refusal seed.now source.now.kit source.now.inputs.items ≡ None) }
     ensures err { IfErr result (λ c. (c ≡ Cause.NoMemory) ⊎ (kit_refusal seed.now source.now.kit source.now.inputs.items ≡ Some c)) }
 {
-    let label = source.kit.output.bytes();
-    let count = count_drawn(&source.inputs) as u32;
-    let order = draw_order(alloc, &sub_seed(seed, label, b"order"), count)?;
-    let gaps = draw_gaps(&sub_seed(seed, label, b"gaps"));
-    let linked = match link_kernel(alloc, &source.kit, &source.inputs, Some(&gaps), &order) {
-        Ok(linked) => linked,
-        Err(LinkFault::NoMemory) => return Err(Cause::NoMemory),
-        Err(fault) => return Err(Cause::Link(fault)),
-    };
-    let report = report(&linked);
-    let map = Map {
-        output: source.kit.output,
-        seed: *seed,
-        placement: linked.placement,
-    };
-    let map = print_map(alloc, &map)?;
-    Ok(Output {
-        image: linked.image,
-        map,
-        report,
-    })
+    match link_kit(alloc, &source.kit, &source.inputs, seed) {
+        Ok(linked) => Ok(linked),
+        Err(LinkFault::NoMemory) => Err(Cause::NoMemory),
+        Err(fault) => Err(Cause::Link(fault)),
+    }
 }
 
 /// Reads the inputs of a kit of a folder. What is left to refuse is the fault of its link.

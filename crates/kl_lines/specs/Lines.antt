@@ -10,7 +10,7 @@ use Rattle.kl_jobs.specs.declared.cause.Cause.{Cause}
 use Rattle.kl_jobs.specs.declared.cause.Cause.TheVariants as cause
 use Rattle.kl_jobs.specs.declared.cause.KitCause.{KitCause}
 use Rattle.kl_jobs.specs.declared.cause.KitCause.TheVariants.{Absent, Text, TooLong, Total}
-use Rattle.kl_jobs.specs.declared.report.Report.{Report}
+use Rattle.kl_link.specs.declared.report.Report.{Report}
 use Rattle.kl_lines.specs.Escaped.{escaped}
 
 -- WHAT WAS DONE: some words, and what is told of an image

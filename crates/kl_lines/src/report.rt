@@ -7,7 +7,7 @@ ghost use Rattle.kl_lines.specs.Lines.{link_line, report_line};
 use crate::pieces::write_pieces;
 use itoa::Buffer;
 use kl_base::Name;
-use kl_jobs::Report;
+use kl_link::Report;
 use kl_store::{Failed, Sink};
 
 /// Writes that the kit of a folder was linked there: `DIR linked pieces P fields F bytes B sha256 HEX`.
