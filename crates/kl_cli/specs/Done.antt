@@ -1,19 +1,18 @@
 -- What a command leaves where all was done.
-use Rattle.std.specs.Prelude.{Option, Some, None}
-use Rattle.std.specs.Option.{ForSome}
-use Rattle.kl_store.specs.Names.{Names}
-use Rattle.kl_store.specs.Disk.{names_now}
+use Rattle.std.specs.Prelude.{ℕ, ◌≡◌, List, Option, Some, None}
 use Rattle.kl_store.specs.Meaning.{Meaning}
-use Rattle.kl_store.specs.Images.{IsSettledAt}
-use Rattle.kl_jobs.specs.Links.{IsLinked}
+use Rattle.kl_store.specs.Outside.{Blocks}
+use Rattle.kl_jobs.specs.Links.{LinksUnder}
 use Rattle.kl_cli.specs.declared.command.Command.{Command}
 use Rattle.kl_cli.specs.declared.command.Command.TheVariants.{Link}
+use Rattle.kl_cli.specs.declared.command.Request.{Request}
+use Rattle.kl_cli.specs.declared.outcome.Outcome.{Outcome}
+use Rattle.kl_cli.specs.declared.outcome.Outcome.TheVariants.{Linked}
 
--- what is left where all was done
-abbrev pub DoneBy : Option Command → Names → Names → Type 0
-DoneBy None m n = ⊥
-DoneBy (Some (Link dir)) m n = IsLinked dir m n
+-- what is left where all was done, and what is told of it
+abbrev pub Does : Command → Option (List ℕ) → Blocks → Blocks → Meaning → Meaning → Outcome → Type 0
+Does (Link dir) given b0 b1 before now (Linked name report) = (name ≡ dir) × LinksUnder dir given b0 b1 before now report
 
--- where the store tells its disk, that stands on it, settled
-abbrev pub Finishes : Option Command → Meaning → Meaning → Type 0
-Finishes command before now = ForSome before.disk (λ d. IsSettledAt now.disk (DoneBy command (names_now d)))
+abbrev pub Finishes : Option Request → Blocks → Blocks → Meaning → Meaning → Outcome → Type 0
+Finishes None b0 b1 before now o = ⊥
+Finishes (Some r) b0 b1 before now o = Does r.command r.seed b0 b1 before now o

@@ -1,3 +1,3 @@
 pub mod Commands
-pub mod Answers
 pub mod Done
+pub mod Answers

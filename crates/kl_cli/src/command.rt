@@ -1,45 +1,92 @@
 // The words of the command line.
 ghost use Rattle.std.specs.Prelude.{◌≡◌, IfSome};
-ghost use Rattle.kl_cli.specs.Commands.{IsCommand, link_of};
+ghost use Rattle.kl_cli.specs.Commands.{IsCommand, command_of, seed_of, seeded, unseeded};
 
 use kl_base::{FILE_LIMIT, Name};
 
-/// What the words ask for.
+/// What is asked for.
 #[derive(Clone, Copy, Debug, PartialEq, Eq)]
 pub enum Command {
     /// Links the kit in a folder, whose name has at most `FILE_LIMIT` bytes.
     Link(Name),
 }
 
-impl Command {
+/// A command, and the seed that was given with it.
+#[derive(Clone, Copy, Debug, PartialEq, Eq)]
+pub struct Request {
+    pub command: Command,
+    /// The seed of order and gaps; without one a command draws its own.
+    pub seed: Option<[u8; 32]>,
+}
+
+impl Request {
     ghost use Rattle.std.specs.Prelude.{◌≡◌, IfSome};
-    ghost use Rattle.kl_cli.specs.Commands.{IsCommand, command_of};
+    ghost use Rattle.kl_cli.specs.Commands.{IsCommand, request_of};
     ghost use Rattle.kl_cli.specs.Answers.{texts};
 
-    /// The command that these words are, if they are one: `link DIR`.
-    pub fn of_words(words: &[Vec<u8>]) -> Option<Command>
-        ensures words { result ≡ command_of (texts words.now) }
-        ensures command { IfSome result IsCommand }
+    /// What these words ask for, if they are a command: `link DIR`, with `--seed HEX` behind it or without.
+    pub fn of_words(words: &[Vec<u8>]) -> Option<Request>
+        ensures words { result ≡ request_of (texts words.now) }
+        ensures command { IfSome result (λ r. IsCommand r.command) }
     {
-        if words.len() != 2 {
-            return None;
+        match words {
+            [word, operand] => unseeded(word, operand),
+            [word, operand, flag, digits] if flag.as_slice() == b"--seed".as_slice() => {
+                seeded(word, operand, digits)
+            }
+            _ => None,
         }
-        link_of(&words[0], &words[1])
     }
 }
 
-// `link DIR`
-fn link_of(word: &[u8], dir: &[u8]) -> Option<Command>
-    ensures words { result ≡ link_of word.now dir.now }
+/// What words without a seed ask for.
+fn unseeded(word: &[u8], operand: &[u8]) -> Option<Request>
+    ensures words { result ≡ unseeded word.now operand.now }
+    ensures command { IfSome result (λ r. IsCommand r.command) }
+{
+    let command = command_of(word, operand)?;
+    Some(Request {
+        command,
+        seed: None,
+    })
+}
+
+/// What words with a seed ask for.
+fn seeded(word: &[u8], operand: &[u8], digits: &[u8]) -> Option<Request>
+    ensures words { result ≡ seeded word.now operand.now digits.now }
+    ensures command { IfSome result (λ r. IsCommand r.command) }
+{
+    let command = command_of(word, operand)?;
+    let seed = seed_of(digits)?;
+    Some(Request {
+        command,
+        seed: Some(seed),
+    })
+}
+
+/// The seed of 64 hexadecimal digits of either case.
+fn seed_of(digits: &[u8]) -> Option<[u8; 32]>
+    ensures { result ≡ seed_of digits.now }
+{
+    let mut seed = [0; 32];
+    match hex::decode_to_slice(digits, &mut seed) {
+        Ok(()) => Some(seed),
+        Err(_) => None,
+    }
+}
+
+/// The command of a word and the one behind it: `link DIR`.
+fn command_of(word: &[u8], operand: &[u8]) -> Option<Command>
+    ensures words { result ≡ command_of word.now operand.now }
     ensures command { IfSome result IsCommand }
 {
     if word != b"link".as_slice() {
         return None;
     }
-    if dir.len() > FILE_LIMIT {
+    if operand.len() > FILE_LIMIT {
         return None;
     }
-    match Name::from_bytes(dir) {
+    match Name::from_bytes(operand) {
         Ok(name) => Some(Command::Link(name)),
         Err(_) => None,
     }

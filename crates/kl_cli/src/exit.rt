@@ -40,6 +40,8 @@ pub fn status(cause: &Cause) -> u8
         Cause::Usage => 2,
         Cause::NoMemory => 3,
         Cause::Store => 4,
+        Cause::Entropy => 5,
+        Cause::Sink => 6,
         Cause::Kit(_) => 12,
         Cause::Object { .. } => 13,
         Cause::Link(_) => 14,

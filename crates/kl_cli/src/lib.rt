@@ -3,8 +3,10 @@
 
 mod command;
 mod exit;
+mod outcome;
 mod top;
 
-pub use command::Command;
+pub use command::{Command, Request};
 pub use exit::Exit;
+pub use outcome::Outcome;
 pub use top::run;

@@ -1,26 +1,28 @@
 // The top call.
-ghost use Rattle.std.specs.Prelude.{◌≡◌, ◌≢◌, ◌↔◌, ◌⊎◌, None, Some, unwrap_or};
+ghost use Rattle.std.specs.Prelude.{◌≡◌, ◌≢◌, ◌↔◌, ◌⊎◌, None, Some, IfErr, IfOk, IsErrOf, OnOk};
 ghost use Rattle.std.specs.Option.{ForSome};
-ghost use Rattle.kl_store.specs.Calls.{Rose, Stays};
+ghost use Rattle.kl_store.specs.Calls.{HasCause, Rose, Stays};
 ghost use Rattle.kl_store.specs.Files.{HasFiles, SameFiles};
 ghost use Rattle.kl_store.specs.Images.{LeavesOfDisk};
-ghost use Rattle.kl_cli.specs.Commands.{IsCommand, command_of};
-ghost use Rattle.kl_cli.specs.Answers.{Answers, MayChange, Says, refusal_of, status_of, texts};
-ghost use Rattle.kl_jobs.specs.Refusals.{IsOutside};
-ghost use Rattle.kl_cli.specs.Done.{Finishes};
+ghost use Rattle.kl_store.specs.Outside.{Writes};
+ghost use Rattle.kl_jobs.specs.Refusals.{EndsUnder, IsJobRefusal, RefusesJob};
+ghost use Rattle.kl_jobs.specs.Seeds.{Draws, NoneDrawn};
+ghost use Rattle.kl_cli.specs.Commands.{IsCommand, request_of};
+ghost use Rattle.kl_cli.specs.Answers.{Answers, IsDone, MayChange, Says, cause_of, early, given_seed, late, lines_of, status_of, texts};
+ghost use Rattle.kl_cli.specs.Done.{Does, Finishes};
+ghost use Rattle.kl_cli.specs.declared.outcome.Outcome.{Outcome};
 
-use crate::command::Command;
+use crate::command::{Command, Request};
 use crate::exit::Exit;
+use crate::outcome::Outcome;
 use kl_jobs::{Cause, link_only};
-use kl_store::{Entropy, Sink, Store};
+use kl_lines::{write_cause, write_link};
+use kl_store::{Entropy, Failed, Sink, Store};
 use std::alloc::Global;
 
-/// The line that is written for words that are no command.
-const USAGE: &[u8] =
-    b"usage: relink link DIR | reorder_kernel | reorder_libs | recover | generate N; --seed HEX may end all but recover\n";
-
-/// Does what the words ask for: `link DIR` links the kit in the folder `DIR` of the store. The words don't name the
-/// program.
+/// Does what the words ask for, and writes the line of it: `link DIR` links the kit in the folder `DIR` of the store, in the order and
+/// with the gaps that are drawn from a seed. With `--seed HEX` behind it that is the seed, without it the next block of the source of
+/// random bytes. The words don't name the program.
 pub fn run<S: Store, E: Entropy, K: Sink>(
     alloc: Global,
     words: &[Vec<u8>],
@@ -29,50 +31,85 @@ pub fn run<S: Store, E: Entropy, K: Sink>(
     out: &mut K,
 ) -> Exit
     // The answer is the first refusal that stands in the words and files, or that all was done, but for want of memory
-    // and a counted fault of the store.
-    ensures usage { (result.cause ≡ Cause.Usage) ↔ (command_of (texts words.now) ≡ None) }
-    ensures answer { Answers (texts words.now) (S.meaning store.old) result.cause }
+    // and a counted fault of the store, of the source of random bytes or of the sink.
+    ensures usage { (result.cause ≡ Cause.Usage) ↔ (request_of (texts words.now) ≡ None) }
+    ensures answer { Answers (texts words.now) (E.meaning entropy.old) (E.meaning entropy.new) (S.meaning store.old) result.cause }
     ensures failed { result.cause ≡ Cause.Store → Rose (S.faults store.old) (S.faults store.new) }
+    ensures entropy { result.cause ≡ Cause.Entropy → Rose (E.faults entropy.old) (E.faults entropy.new) }
+    ensures sink { result.cause ≡ Cause.Sink → Rose (K.faults out.old) (K.faults out.new) }
     ensures status { result.status ≡ status_of result.cause }
     ensures batches { result.batches ≡ 0 }
 
     // What a done command leaves, stable on the disk, and what every command leaves alone, at each moment.
-    ensures done { result.cause ≡ Cause.Done → Finishes (command_of (texts words.now)) (S.meaning store.old) (S.meaning store.new) }
+    ensures done { IsDone result.cause → (o : Outcome) × Finishes (request_of (texts words.now)) (E.meaning entropy.old) (E.meaning entropy.new) (S.meaning store.old) (S.meaning store.new) o }
     ensures untouched { MayChange result.cause ⊎ Stays (S.meaning store.old) (S.meaning store.new) }
     ensures images { LeavesOfDisk (S.meaning store.old) (S.meaning store.new) HasFiles }
     ensures files { SameFiles (S.meaning store.old) (S.meaning store.new) }
-    ensures blocks { E.meaning entropy.new ≡ E.meaning entropy.old }
-    ensures says { Says result.cause (K.meaning out.old) (K.meaning out.new) (K.faults out.old) (K.faults out.new) }
+
+    // It takes one block at most, none with a seed, and none where the source failed.
+    ensures draws { Draws (given_seed (request_of (texts words.now))) (E.meaning entropy.old) (E.meaning entropy.new) }
+    ensures undrawn { result.cause ≡ Cause.Entropy → NoneDrawn (given_seed (request_of (texts words.now))) (E.meaning entropy.old) (E.meaning entropy.new) }
+
+    // What is written.
+    ensures says { Says (request_of (texts words.now)) (E.meaning entropy.old) (E.meaning entropy.new) (S.meaning store.old) (S.meaning store.new)
+        result.cause (K.meaning out.old) (K.meaning out.new) (K.faults out.old) (K.faults out.new) }
 {
-    let Some(command) = Command::of_words(words) else {
-        say_usage(out);
-        return Exit::of(Cause::Usage);
+    let ended = match Request::of_words(words) {
+        Some(request) => execute(alloc, &request, store, entropy),
+        None => Err(Cause::Usage),
     };
-    Exit::of(execute(alloc, command, store))
+    let told = tell(out, &ended);
+    Exit::of(cause_of(ended, told.is_ok()))
 }
 
-/// Writes the usage line. A sink that fails changes nothing of the answer.
-fn say_usage<K: Sink>(out: &mut K)
-    ensures { Says Cause.Usage (K.meaning out.old) (K.meaning out.new) (K.faults out.old) (K.faults out.new) }
+/// The cause that is answered of how a command ended, by whether the sink took its lines: a sink that fails changes nothing of a refusal.
+fn cause_of(ended: Result<Outcome, Cause>, told: bool) -> Cause
+    ensures { result ≡ cause_of ended told }
 {
-    let _ = out.write(USAGE);
+    match ended {
+        Ok(_) if told => Cause::Done,
+        Ok(_) => Cause::Sink,
+        Err(cause) => cause,
+    }
+}
+
+/// Writes the lines of how a command ended.
+fn tell<K: Sink>(out: &mut K, ended: &Result<Outcome, Cause>) -> Result<(), Failed>
+    ensures writes { Writes (lines_of ended.now) (K.meaning out.old) (K.meaning out.new) result }
+    ensures cause { HasCause (K.faults out.old) (K.faults out.new) result }
+{
+    match ended {
+        Ok(Outcome::Linked(dir, report)) => write_link(out, dir, report),
+        Err(cause) => write_cause(out, cause),
+    }
 }
 
 /// Does what a command asks for.
-fn execute<S: Store>(alloc: Global, command: Command, store: &mut S) -> Cause
-    requires { IsCommand command }
-    ensures usage { result ≢ Cause.Usage }
-    ensures answer { ForSome (S.meaning store.old).names (λ m. IsOutside result ⊎ (unwrap_or (refusal_of m (Some command)) Cause.Done ≡ result)) }
-    ensures failed { result ≡ Cause.Store → Rose (S.faults store.old) (S.faults store.new) }
-    ensures done { result ≡ Cause.Done → Finishes (Some command) (S.meaning store.old) (S.meaning store.new) }
-    ensures untouched { MayChange result ⊎ Stays (S.meaning store.old) (S.meaning store.new) }
+fn execute<S: Store, E: Entropy>(
+    alloc: Global,
+    request: &Request,
+    store: &mut S,
+    entropy: &mut E,
+) -> Result<Outcome, Cause>
+    requires { IsCommand request.now.command }
+    ensures done { IfOk result (Does request.now.command request.now.seed (E.meaning entropy.old) (E.meaning entropy.new) (S.meaning store.old) (S.meaning store.new)) }
+    ensures stands { OnOk result (ForSome (S.meaning store.old).names
+        (λ m. EndsUnder request.now.seed (E.meaning entropy.old) (E.meaning entropy.new) (early m request.now.command) (late m request.now.command) None)) }
+    ensures refused { IfErr result (RefusesJob request.now.seed (E.meaning entropy.old) (E.meaning entropy.new) (S.meaning store.old)
+        (λ m. early m request.now.command) (λ m. late m request.now.command)) }
+    ensures refusal { IfErr result IsJobRefusal }
+    ensures failed { IsErrOf result Cause.Store → Rose (S.faults store.old) (S.faults store.new) }
+    ensures draws { Draws request.now.seed (E.meaning entropy.old) (E.meaning entropy.new) }
+    ensures undrawn { IsErrOf result Cause.Entropy → NoneDrawn request.now.seed (E.meaning entropy.old) (E.meaning entropy.new) }
+    ensures entropy { IsErrOf result Cause.Entropy → Rose (E.faults entropy.old) (E.faults entropy.new) }
+    ensures untouched { IfErr result (λ c. (c ≡ Cause.Store) ⊎ Stays (S.meaning store.old) (S.meaning store.new)) }
     ensures images { LeavesOfDisk (S.meaning store.old) (S.meaning store.new) HasFiles }
     ensures files { SameFiles (S.meaning store.old) (S.meaning store.new) }
 {
-    match command {
-        Command::Link(dir) => match link_only(alloc, &dir, store) {
-            Ok(()) => Cause::Done,
-            Err(cause) => cause,
-        },
+    match request.command {
+        Command::Link(dir) => {
+            let report = link_only(alloc, &dir, request.seed, store, entropy)?;
+            Ok(Outcome::Linked(dir, report))
+        }
     }
 }

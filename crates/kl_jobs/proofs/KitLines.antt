@@ -2,7 +2,7 @@
 use Rattle.std.proofs.Common.{ℕ, zero, suc, ◌≡◌, ◌+◌, ◌<◌, ◌≤◌, ◌∙◌, List, [], ◌∷◌, ◌++◌, length, map, get_or, refl, sym, ap, arith, Bool, true, not, ◌&&◌, inl, inr}
 use Rattle.std.specs.Prelude.{All, AllPairs, None, Some, Option, ◌==◌, nat_le, nat_eq, is_none, sum_by, codes}
 use Rattle.std.specs.Str.{bytes_eq}
-use Rattle.std.specs.List.{AllByRecursion, ends_with, range_with_len}
+use Rattle.std.specs.List.{AllByRecursion, ends_with}
 use Rattle.std.proofs.lemmas.Bool.{cases_Bool, eqb-true, leb-true}
 use Rattle.std.proofs.lemmas.List.{get_or-map, length-map}
 use Rattle.std.proofs.lemmas.List.Elements.{All-append, All-cons, All-nil}
@@ -11,14 +11,13 @@ use Rattle.kl_base.specs.Names.{name_fault}
 use Rattle.kl_base.specs.declared.limits.TheConstants.{FILE_LIMIT, SCRATCH_SUFFIX}
 use Rattle.kl_model.specs.Fit.{AreFit, IsFit}
 use Rattle.kl_model.specs.Kept.{part_number}
-use Rattle.kl_model.specs.Orders.{IsOrder, drawn_count}
 use Rattle.kl_model.specs.declared.kit.KitInput.{KitInput}
 use Rattle.kl_model.specs.declared.object.Input.{Input}
 use Rattle.kl_model.specs.declared.object.Part.{Part}
 use Rattle.kl_model.specs.declared.object.Part.TheVariants.{Head, Drawn, Tail}
 use Rattle.kl_model.proofs.Each.{pairs-append}
 use Rattle.kl_kit.specs.Forms.{HasFile, is_file}
-use Rattle.kl_jobs.specs.Reading.{in_turn, kit_order, lines_of, over}
+use Rattle.kl_jobs.specs.Reading.{kit_order, lines_of, over}
 use Rattle.kl_jobs.proofs.Readings.{bounds}
 
 none_is : {X : Type 0} (o : Option X) → is_none o ≡ true → o ≡ None
@@ -118,14 +117,3 @@ are_fit xs lines fit none same =
       symbols = w.1.1.1.0;
       fields = w.1.1.1.1;
     }
-
-pub turn_order : (xs : List Input) → IsOrder (drawn_count (map (λ x. x.place) xs)) (in_turn xs)
-turn_order xs = record { moves = []; below = tt; is = refl }
-
--- one number more
-pub range_more : (a n : ℕ) → range_with_len a (n + 1) ≡ range_with_len a n ++ (a + n) ∷ []
-range_more a zero = let z : a + 0 ≡ a = omega arith in rw z refl
-range_more a (suc n) =
-    let long : suc n + 1 ≡ suc (n + 1) = omega arith in
-    let next : a + 1 + n ≡ a + suc n = omega arith in
-    ap (range_with_len a) long ∙ ap (λ l. a ∷ l) (range_more (a + 1) n ∙ ap (λ j. range_with_len (a + 1) n ++ j ∷ []) next)

@@ -1,3 +1,4 @@
+pub mod JobEnds
 pub mod Readings
 pub mod KitLines
 pub mod Written

@@ -1,4 +1,5 @@
 pub mod Reading
+pub mod Seeds
 pub mod Refusals
 pub mod Links
 pub mod Writing

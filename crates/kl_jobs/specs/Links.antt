@@ -1,15 +1,18 @@
 -- What a link leaves.
-use Rattle.std.specs.Prelude.{ℕ, ◌≡◌, List, [], replicate, None}
+use Rattle.std.specs.Prelude.{ℕ, ◌≡◌, List, [], Option, None}
+use Rattle.std.specs.Option.{ForSome}
 use Rattle.kl_store.specs.Names.{Names}
-use Rattle.kl_model.specs.Carries.{Carries}
-use Rattle.kl_model.specs.Fit.{AreFit, IsKit}
+use Rattle.kl_store.specs.Disk.{names_now}
+use Rattle.kl_store.specs.Meaning.{Meaning}
+use Rattle.kl_store.specs.Images.{IsSettledAt}
+use Rattle.kl_store.specs.Outside.{Blocks}
 use Rattle.kl_model.specs.declared.kit.Kit.{Kit}
-use Rattle.kl_model.specs.declared.kit.KitKind.TheVariants.{Kernel}
 use Rattle.kl_model.specs.declared.object.Input.{Input}
-use Rattle.kl_model.specs.declared.place.Placement.{Placement}
-use Rattle.kl_map.specs.MapText.{map_text}
-use Rattle.kl_jobs.specs.Reading.{in_turn, inputs_in, kit_in, kit_order, lines_refusal, text_refusal}
+use Rattle.kl_jobs.specs.Reading.{inputs_in, kit_in, kit_order, lines_refusal, text_refusal}
+use Rattle.kl_jobs.specs.Seeds.{IsSeed}
 use Rattle.kl_jobs.specs.Writing.{IsPutPair}
+use Rattle.kl_link.specs.Links.{AreLinked, report_of}
+use Rattle.kl_link.specs.declared.report.Report.{Report}
 
 -- the kit and the inputs of a folder, as its files say: nothing stands against them
 pub record IsKitOf (m : Names) (dir : List ℕ) (kit : Kit) (inputs : List Input) : Type 0 where
@@ -18,24 +21,20 @@ pub record IsKitOf (m : Names) (dir : List ℕ) (kit : Kit) (inputs : List Input
   pub lines : lines_refusal m dir [] (kit_order kit.inputs) ≡ None
   pub inputs_are : inputs ≡ inputs_in m dir (kit_order kit.inputs)
 
--- a kernel's kit and inputs that can be linked
-pub record IsLinkable (kit : Kit) (inputs : List Input) : Type 0 where
-  pub form : IsKit kit
-  pub kernel : kit.kind ≡ Kernel
-  pub fit : AreFit inputs
-
--- an image and a map text of a kit: of one placement, which carries the kit in kit order without gaps
-pub record AreLinked (kit : Kit) (inputs : List Input) (image map : List ℕ) : Type 0 where
-  pub placement : Placement
-  pub carries : Carries image placement kit inputs None (in_turn inputs)
-  pub map_is : map ≡ map_text (record { output = kit.output; seed = replicate 32 0; placement = placement })
-
--- After a link the image name holds an image of the folder's kit and the map name its map. All other names hold what they held.
-pub record IsLinked (dir : List ℕ) (m n : Names) : Type 0 where
+-- After a link the image name holds an image of the folder's kit and the map name its map, and this is what is told of the image.
+-- All other names hold what they held.
+pub record IsLinked (dir seed : List ℕ) (report : Report) (m n : Names) : Type 0 where
   pub kit : Kit
   pub inputs : List Input
   pub image : List ℕ
   pub map : List ℕ
   pub reads : IsKitOf m dir kit inputs
-  pub linked : AreLinked kit inputs image map
+  pub linked : AreLinked seed kit inputs image map
+  pub told : report ≡ report_of kit inputs image
   pub written : IsPutPair dir image map m n
+
+-- a link under the seed that was used, stable on the disk where the store tells it
+pub record LinksUnder (dir : List ℕ) (given : Option (List ℕ)) (b0 b1 : Blocks) (before now : Meaning) (report : Report) : Type 0 where
+  pub seed : List ℕ
+  pub drawn : IsSeed given b0 b1 seed
+  pub linked : ForSome before.disk (λ d. IsSettledAt now.disk (IsLinked dir seed report (names_now d)))

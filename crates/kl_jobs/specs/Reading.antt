@@ -1,13 +1,12 @@
 -- The kit and the inputs of a folder, as its files say, and the first refusal that stands in those files.
 use Rattle.std.specs.Prelude.{ℕ, ◌≡◌, Bool, ◌||◌, ◌==◌, if◌then◌else◌, nat_lt, List, [], ◌∷◌, ◌++◌, filter, length, map, sum_by, slice_get, codes, nat_eq, Option, Some, None, unwrap_or}
 use Rattle.std.specs.Option.{option_map, option_or}
-use Rattle.std.specs.List.{range_with_len, starts_with}
+use Rattle.std.specs.List.{starts_with}
 use Rattle.std.specs.FinMap.{get}
 use Rattle.kl_base.specs.declared.limits.TheConstants.{FIELD_COUNT_LIMIT, INPUT_BYTES_LIMIT, INPUT_COUNT_LIMIT, INPUT_LIMIT, KIT_TEXT_LIMIT, SECTION_COUNT_LIMIT, SYMBOL_COUNT_LIMIT}
 use Rattle.kl_store.specs.Names.{Names}
 use Rattle.kl_model.specs.Kept.{part_number}
 use Rattle.kl_model.specs.Kits.{is_kernel}
-use Rattle.kl_model.specs.Orders.{drawn_count}
 use Rattle.kl_model.specs.declared.kit.Kit.{Kit}
 use Rattle.kl_model.specs.declared.kit.KitInput.{KitInput}
 use Rattle.kl_model.specs.declared.object.Input.{Input}
@@ -54,10 +53,6 @@ input_of place b = record { place = place; bytes = b; object = object b }
 -- THE INPUTS of some lines
 abbrev pub inputs_in : Names → List ℕ → List KitInput → List Input
 inputs_in m dir lines = map (λ k. input_of k.place (held m (below dir k.file))) lines
-
--- the drawn inputs in the order in which the kit names them
-abbrev pub in_turn : List Input → List ℕ
-in_turn inputs = range_with_len 0 (drawn_count (map (λ x. x.place) inputs))
 
 -- WHY A FILE ISN'T READ: the name is absent, or its file is longer than the limit
 abbrev pub fault_of : List ℕ → ℕ → Option (List ℕ) → Option Cause

@@ -17,6 +17,10 @@ pub enum Cause {
     NoMemory,
     /// A call of the store failed.
     Store,
+    /// The source of random bytes failed.
+    Entropy,
+    /// All was done, but the sink didn't take the lines that say so.
+    Sink,
     /// The kit isn't read.
     Kit(KitCause),
     /// An input isn't read: its number, its line in the kit text, and the first flaw of its bytes.

@@ -6,6 +6,7 @@ mod display;
 mod files;
 mod link;
 mod reading;
+mod seed;
 
 pub use cause::{Cause, KitCause, ObjectCause, TotalOf};
 pub use link::link_only;

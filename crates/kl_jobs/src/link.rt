@@ -1,24 +1,29 @@
 // `link DIR`: one kit, linked into the kit's own folder.
-ghost use Rattle.std.specs.Prelude.{◌≡◌, ◌≤◌, ◌⊎◌, None, Some, length, map, IfOk, IfErr, OnOk, IsErrOf};
+ghost use Rattle.std.specs.Prelude.{◌≡◌, ◌≢◌, ◌≤◌, ◌<◌, ◌-◌, ◌^◌, ◌⊎◌, None, Some, length, map, IfOk, IfErr, OnOk, IsErrOf};
 ghost use Rattle.std.specs.Option.{ForSome};
 ghost use Rattle.kl_store.specs.Calls.{HasCause, Rose, Stays};
 ghost use Rattle.kl_store.specs.Files.{HasFiles, SameFiles};
 ghost use Rattle.kl_store.specs.Images.{Ends, LeavesOfDisk};
-ghost use Rattle.kl_model.specs.Orders.{drawn_count};
-ghost use Rattle.kl_jobs.specs.Reading.{in_turn as drawn_in_turn};
-ghost use Rattle.kl_jobs.specs.Refusals.{IsRefusal, Refuses, kit_refusal, link_refusal};
-ghost use Rattle.kl_jobs.specs.Links.{AreLinked, IsKitOf, IsLinkable, IsLinked};
+ghost use Rattle.kl_model.specs.Fit.{IsKit};
+ghost use Rattle.kl_model.specs.declared.kit.KitKind.TheVariants.{Kernel};
+ghost use Rattle.kl_kit.specs.Forms.{HasFile};
+ghost use Rattle.std.specs.List.{AllByRecursion};
+ghost use Rattle.kl_jobs.specs.Reading.{inputs_in, kit_order as lines_in_kit_order, lines_refusal, text_refusal};
+ghost use Rattle.kl_jobs.specs.Refusals.{EndsUnder, IsJobRefusal, IsRefusal, Refuses, RefusesJob, kit_refusal, late_refusal};
+ghost use Rattle.kl_jobs.specs.Seeds.{Draws, NoneDrawn};
+ghost use Rattle.kl_jobs.specs.Links.{LinksUnder};
+ghost use Rattle.kl_link.specs.Links.{AreLinked, IsLinkable, report_of};
 ghost use Rattle.kl_jobs.specs.Writing.{IsPutPair};
-ghost use Rattle.kl_base.specs.declared.limits.TheConstants.{FILE_LIMIT, INPUT_COUNT_LIMIT};
+ghost use Rattle.kl_base.specs.declared.limits.TheConstants.{FILE_LIMIT};
 
 use crate::cause::Cause;
 use crate::files::file_in;
 use crate::reading::{kit_order, read_inputs, read_text};
-use kl_base::{Name, NoMemory};
-use kl_kernel::link_kernel;
-use kl_map::{Map, print_map};
-use kl_model::{Input, Kit, LinkFault, Part};
-use kl_store::{Failed, Store, write_whole};
+use crate::seed::draw_seed;
+use kl_base::Name;
+use kl_link::{LinkedKit, Report, link_kit};
+use kl_model::{Input, Kit, LinkFault};
+use kl_store::{Entropy, Failed, Store, write_whole};
 use std::alloc::Global;
 
 /// A kit and its inputs in kit order.
@@ -28,101 +33,89 @@ struct Source {
     inputs: Vec<Input>,
 }
 
-/// An image and the text of its map.
-#[derive(Drop)]
-struct Files {
-    image: Vec<u8>,
-    map: Vec<u8>,
-}
-
-/// Links the kit whose text is `DIR/link.conf`: writes the image to `DIR/linked.relink` and the map of its placement to
-/// `DIR/linked.map.relink`, and settles.
-pub fn link_only<S: Store>(alloc: Global, dir: &Name, store: &mut S) -> Result<(), Cause>
+/// Links the kit whose text is `DIR/link.conf`, in the order and with the gaps that are drawn from the seed: writes the image to
+/// `DIR/linked.relink` and the map of its placement to `DIR/linked.map.relink`, and settles. Without a seed it draws one, a block of
+/// the source of random bytes, when the kit text is read.
+///
+/// # Errors
+///
+/// The first that stands: of the kit text, of the source of random bytes, of the inputs in kit order, of the link, of the store.
+pub fn link_only<S: Store, E: Entropy>(
+    alloc: Global,
+    dir: &Name,
+    seed: Option<[u8; 32]>,
+    store: &mut S,
+    entropy: &mut E,
+) -> Result<Report, Cause>
     requires { length dir.now ≤ FILE_LIMIT }
-    ensures done { Ends (S.meaning store.old) (S.meaning store.new) result (IsLinked dir.now) }
-    ensures stands { OnOk result (ForSome (S.meaning store.old).names (λ m. link_refusal m dir.now ≡ None)) }
-    ensures refused { IfErr result (Refuses (S.meaning store.old) (λ m. link_refusal m dir.now)) }
-    ensures refusal { IfErr result IsRefusal }
+    ensures done { IfOk result (LinksUnder dir.now seed (E.meaning entropy.old) (E.meaning entropy.new) (S.meaning store.old) (S.meaning store.new)) }
+    ensures stands { OnOk result (ForSome (S.meaning store.old).names
+        (λ m. EndsUnder seed (E.meaning entropy.old) (E.meaning entropy.new) (text_refusal m dir.now) (late_refusal m dir.now) None)) }
+    ensures refused { IfErr result (RefusesJob seed (E.meaning entropy.old) (E.meaning entropy.new) (S.meaning store.old)
+        (λ m. text_refusal m dir.now) (λ m. late_refusal m dir.now)) }
+    ensures refusal { IfErr result IsJobRefusal }
     ensures failed { IsErrOf result Cause.Store → Rose (S.faults store.old) (S.faults store.new) }
+
+    // It takes one block at most, none with a seed, and none where the source failed.
+    ensures draws { Draws seed (E.meaning entropy.old) (E.meaning entropy.new) }
+    ensures undrawn { IsErrOf result Cause.Entropy → NoneDrawn seed (E.meaning entropy.old) (E.meaning entropy.new) }
+    ensures entropy { IsErrOf result Cause.Entropy → Rose (E.faults entropy.old) (E.faults entropy.new) }
 
     // A refusal changes no name. Whatever the answer, no file has changed, and a crash leaves no file changed.
     ensures untouched { IfErr result (λ c. (c ≡ Cause.Store) ⊎ Stays (S.meaning store.old) (S.meaning store.new)) }
     ensures images { LeavesOfDisk (S.meaning store.old) (S.meaning store.new) HasFiles }
     ensures files { SameFiles (S.meaning store.old) (S.meaning store.new) }
 {
-    let source = read_source(alloc, dir, store)?;
-    let files = link_source(alloc, &source)?;
-    write_pair(store, dir, &files.image, &files.map)?;
-    Ok(())
+    let kit = read_text(alloc, dir, store)?;
+    let Ok(seed) = draw_seed(seed, entropy) else {
+        return Err(Cause::Entropy);
+    };
+    let source = read_source(alloc, dir, kit, store)?;
+    let linked = link_source(alloc, &source, &seed)?;
+    write_pair(store, dir, &linked.image, &linked.map)?;
+    Ok(linked.report)
 }
 
-/// How many inputs are drawn.
-fn count_drawn(inputs: &[Input]) -> usize
-    ensures count { result ≡ drawn_count (map (λ x. x.place) inputs.now) }
-    ensures few { result ≤ length inputs.now }
-{
-    let mut count = 0;
-    for input in inputs {
-        if input.place == Part::Drawn {
-            count += 1;
-        }
-    }
-    count
-}
-
-/// The numbers of the drawn inputs, in the order in which the kit names them.
-fn in_turn(alloc: Global, inputs: &[Input]) -> Result<Vec<u32>, NoMemory>
-    requires { length inputs.now ≤ INPUT_COUNT_LIMIT }
-    ensures { IfOk result (λ order. order.items ≡ drawn_in_turn inputs.now) }
-{
-    let count = count_drawn(inputs) as u32;
-    let mut order = Vec::with_capacity(alloc, count as usize)?;
-    for number in 0..count {
-        order.push(number)?;
-    }
-    Ok(order)
-}
-
-/// The image of a kit and the text of its map.
+/// The image of a kit under a seed, its map, and what is told of it.
 ///
 /// # Errors
 ///
 /// `Link` with the first fault of the kit, and `NoMemory`.
-fn link_source(alloc: Global, source: &Source) -> Result<Files, Cause>
+fn link_source(alloc: Global, source: &Source, seed: &[u8; 32]) -> Result<LinkedKit, Cause>
     requires { IsLinkable source.now.kit source.now.inputs.items }
-    ensures linked { IfOk result (λ f. AreLinked source.now.kit source.now.inputs.items f.image.items f.map.items) }
-    ensures sound { OnOk result (kit_refusal source.now.kit source.now.inputs.items ≡ None) }
-    ensures err { IfErr result (λ c. (c ≡ Cause.NoMemory) ⊎ (kit_refusal source.now.kit source.now.inputs.items ≡ Some c)) }
+    ensures linked { IfOk result (λ l. AreLinked seed.now source.now.kit source.now.inputs.items l.image.items l.map.items) }
+    ensures told { IfOk result (λ l. l.report ≡ report_of source.now.kit source.now.inputs.items l.image.items) }
+    ensures sound { OnOk result (kit_refusal seed.now source.now.kit source.now.inputs.items ≡ None) }
+    ensures err { IfErr result (λ c. (c ≡ Cause.NoMemory) ⊎ (kit_refusal seed.now source.now.kit source.now.inputs.items ≡ Some c)) }
 {
-    let order = in_turn(alloc, &source.inputs)?;
-    let linked = match link_kernel(alloc, &source.kit, &source.inputs, None, &order) {
-        Ok(linked) => linked,
-        Err(LinkFault::NoMemory) => return Err(Cause::NoMemory),
-        Err(fault) => return Err(Cause::Link(fault)),
-    };
-    let image = linked.image;
-    let map = Map {
-        output: source.kit.output,
-        seed: [0; 32],
-        placement: linked.placement,
-    };
-    let map = print_map(alloc, &map)?;
-    Ok(Files { image, map })
+    match link_kit(alloc, &source.kit, &source.inputs, seed) {
+        Ok(linked) => Ok(linked),
+        Err(LinkFault::NoMemory) => Err(Cause::NoMemory),
+        Err(fault) => Err(Cause::Link(fault)),
+    }
 }
 
-/// Reads the kit of a folder and its inputs. What is left to refuse is the fault of its link.
-fn read_source<S: Store>(alloc: Global, dir: &Name, store: &mut S) -> Result<Source, Cause>
-    requires { length dir.now ≤ FILE_LIMIT }
-    ensures reads { IfOk result (λ s. ForSome (S.meaning store.old).names (λ m. IsKitOf m dir.now s.kit s.inputs.items)) }
-    ensures stands { IfOk result (λ s. ForSome (S.meaning store.old).names (λ m. link_refusal m dir.now ≡ kit_refusal s.kit s.inputs.items)) }
+/// Reads the inputs of a kit of a folder. What is left to refuse is the fault of its link.
+fn read_source<S: Store>(
+    alloc: Global,
+    dir: &Name,
+    kit: Kit,
+    store: &mut S,
+) -> Result<Source, Cause>
+    requires dir { length dir.now ≤ FILE_LIMIT }
+    requires form { IsKit kit }
+    requires kernel { kit.kind ≡ Kernel }
+    requires inputs { AllByRecursion HasFile kit.inputs }
+    ensures kit { IfOk result (λ s. s.kit ≡ kit) }
+    ensures reads { IfOk result (λ s. ForSome (S.meaning store.old).names (λ m. s.inputs.items ≡ inputs_in m dir.now (lines_in_kit_order kit.inputs))) }
+    ensures stands { OnOk result (ForSome (S.meaning store.old).names (λ m. lines_refusal m dir.now [] (lines_in_kit_order kit.inputs) ≡ None)) }
     ensures linkable { IfOk result (λ s. IsLinkable s.kit s.inputs.items) }
-    ensures refused { IfErr result (Refuses (S.meaning store.old) (λ m. link_refusal m dir.now)) }
+    ensures refused { IfErr result (Refuses (S.meaning store.old) (λ m. lines_refusal m dir.now [] (lines_in_kit_order kit.inputs))) }
     ensures refusal { IfErr result IsRefusal }
     ensures failed { IsErrOf result Cause.Store → Rose (S.faults store.old) (S.faults store.new) }
     ensures faults { S.faults store.old ≤ S.faults store.new }
     ensures still { Stays (S.meaning store.old) (S.meaning store.new) }
 {
-    let kit = read_text(alloc, dir, store)?;
     let lines = kit_order(alloc, kit.inputs.items())?;
     let inputs = read_inputs(alloc, store, dir, &lines)?;
     Ok(Source { kit, inputs })

@@ -1,10 +1,11 @@
 -- The steps of a link: names, the layout, the image.
-use Rattle.std.proofs.Common.{◌≡◌, ◌≤◌, ◌∙◌, ℕ, List, [], ap, map, subst, sym, arith}
+use Rattle.std.proofs.Common.{◌≡◌, ◌<◌, ◌≤◌, ◌^◌, ◌∙◌, ℕ, List, [], ap, length, map, length-append, subst, sym, arith}
 use Rattle.std.specs.Prelude.{Option, Some, None, slice_get}
+use Rattle.std.proofs.lemmas.List.{length-map}
 use Rattle.kl_base.specs.declared.limits.TheConstants.{SPAN_LIMIT}
 use Rattle.kl_layout.specs.Spans.{AreSmall, as_link_fault, layout_fault}
 use Rattle.kl_layout.specs.declared.fault.LayoutFault.{LayoutFault}
-use Rattle.kl_model.specs.Carries.{Carries, CarriesGraph, NamesPieces}
+use Rattle.kl_model.specs.Carries.{Carries, CarriesGraph, NamesPieces, gap_names}
 use Rattle.kl_model.specs.Faults.{link_fault, range_faults, resolve_fault}
 use Rattle.kl_model.specs.Fit.{AreFit, IsKit}
 use Rattle.kl_model.specs.Graphs.{graph}
@@ -15,11 +16,13 @@ use Rattle.kl_model.specs.Placed.{placed}
 use Rattle.kl_model.specs.Sizes.{made_of}
 use Rattle.kl_model.specs.Sound.{IsSoundGraph}
 use Rattle.kl_model.specs.declared.graph.Graph.{Graph}
+use Rattle.kl_model.specs.declared.graph.Piece.{Piece}
 use Rattle.kl_model.specs.declared.kit.Kit.{Kit}
 use Rattle.kl_model.specs.declared.kit.KitKind.TheVariants.{Kernel}
 use Rattle.kl_model.specs.declared.object.Input.{Input}
 use Rattle.kl_model.specs.declared.place.Gaps.{Gaps}
 use Rattle.kl_model.specs.declared.place.Made.{Made}
+use Rattle.kl_model.specs.declared.place.Placed.{Placed}
 use Rattle.kl_model.specs.declared.place.Placement.{Placement}
 use Rattle.kl_write.specs.LaidKernel.{HasAreaAddresses, HaveSources, IsLaidKernel}
 use Rattle.kl_write.proofs.LawFields.{carries_graph, no_range_faults}
@@ -58,6 +61,21 @@ module _ (kit : Kit) (inputs : List Input) (gaps : Option Gaps) (order : List �
 
     pub addresses : HasAreaAddresses p
     addresses = rw placed_is (area_addresses kit g gaps order made)
+
+    few_gaps : (z : Option Gaps) → length (gap_names z) ≤ 4
+    few_gaps None = omega arith
+    few_gaps (Some z) = omega arith
+
+    -- the placement has a piece of the graph or a gap
+    pub few_placed : length p.pieces < 2 ^ 32
+    few_placed =
+        let named = ap length names in
+        let placed_count = length-map p.pieces (λ (x : Placed). (x.id, x.size)) in
+        let piece_count = length-map g.pieces (λ (x : Piece). (x.id, x.size)) in
+        let both = length-append (map (λ (x : Piece). (x.id, x.size)) g.pieces) (gap_names gaps) in
+        let limit = sound.piece_count in
+        let gap_count = few_gaps gaps in
+        omega arith
 
     pub laid_kernel : IsLaidKernel kit g gaps order p
     laid_kernel = record {

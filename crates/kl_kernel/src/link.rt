@@ -1,5 +1,5 @@
 // Links a kernel.
-ghost use Rattle.std.specs.Prelude.{◌≡◌, ◌⊎◌, None, Some, length, map, IfErr, IfOk, IfSome, OnOk};
+ghost use Rattle.std.specs.Prelude.{◌≡◌, ◌<◌, ◌^◌, ◌⊎◌, None, Some, length, map, IfErr, IfOk, IfSome, OnOk};
 ghost use Rattle.std.specs.Option.{option_copied};
 ghost use Rattle.kl_model.specs.Carries.{Carries};
 ghost use Rattle.kl_model.specs.Faults.{link_fault};
@@ -41,6 +41,7 @@ pub fn link_kernel(
     requires order { IsOrder (drawn_count (map (λ x. x.place) inputs.now)) order.now }
     ensures ok { IfOk result (λ l. Carries l.image.items l.placement kit.now inputs.now (option_copied gaps.entry) order.now) }
     ensures fields { IfOk result (λ l. l.fields ≡ length (graph kit.now inputs.now).fields) }
+    ensures few { IfOk result (λ l. length l.placement.pieces < 2 ^ 32) }
     ensures sound { OnOk result (link_fault kit.now inputs.now (option_copied gaps.entry) order.now ≡ None) }
     ensures err { IfErr result (λ e. (e ≡ LinkFault.NoMemory) ⊎ (link_fault kit.now inputs.now (option_copied gaps.entry) order.now ≡ Some e)) }
     ensures roomy { IfErr result (λ e. IsRoomy kit.now (graph kit.now inputs.now) → IsNoSpanOrRange e) }

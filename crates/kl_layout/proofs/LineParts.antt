@@ -24,7 +24,8 @@ use Rattle.kl_model.specs.declared.place.Gaps.{Gaps}
 use Rattle.kl_model.specs.declared.place.LinePart.{LinePart}
 use Rattle.kl_model.specs.declared.place.Made.{Made}
 use Rattle.kl_model.proofs.InOrder.{Aligned}
-use Rattle.kl_layout.specs.Spans.{AreGaps, AreSmall}
+use Rattle.kl_model.specs.Fit.{AreGaps}
+use Rattle.kl_layout.specs.Spans.{AreSmall}
 use Rattle.kl_layout.specs.Stops.{IsBody, IsPart, IsStep, room}
 use Rattle.kl_layout.proofs.Enumerated.{all_append, passing_holds}
 use Rattle.kl_layout.proofs.Once.{everything_once}

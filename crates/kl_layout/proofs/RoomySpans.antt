@@ -22,7 +22,7 @@ use Rattle.kl_model.specs.declared.kit.KitKind.TheVariants.{Kernel, Library}
 use Rattle.kl_model.specs.declared.place.Gaps.{Gaps}
 use Rattle.kl_model.specs.declared.place.LinePart.{LinePart}
 use Rattle.kl_model.specs.declared.place.Made.{Made}
-use Rattle.kl_layout.specs.Spans.{AreGaps}
+use Rattle.kl_model.specs.Fit.{AreGaps}
 use Rattle.kl_layout.specs.Stops.{room}
 use Rattle.kl_layout.proofs.LineParts.{one_room, step_small}
 use Rattle.kl_layout.proofs.OneEach.{lines_sum}

@@ -13,7 +13,8 @@ ghost use Rattle.kl_model.specs.Placed.{placed};
 ghost use Rattle.kl_model.specs.Sound.{IsSoundGraph};
 ghost use Rattle.kl_model.specs.declared.area.TheConstants as area;
 ghost use Rattle.kl_layout.specs.Once.{AreOnce};
-ghost use Rattle.kl_layout.specs.Spans.{AreGaps, AreSmall, layout_fault};
+ghost use Rattle.kl_model.specs.Fit.{AreGaps};
+ghost use Rattle.kl_layout.specs.Spans.{AreSmall, layout_fault};
 ghost use Rattle.kl_layout.specs.Stops.{AreListed, IsPart, IsStep, laid_gap, laid_gaps, laid_pieces, listed_from, listed_line, room};
 
 use crate::LayoutFault;

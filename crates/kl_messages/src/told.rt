@@ -7,7 +7,7 @@ use crate::source::{
 };
 use crate::usage::{is_of_system, tell_words};
 use kl_base::{INPUT_LIMIT, KIT_TEXT_LIMIT, Name, NoMemory};
-use kl_cli::Command;
+use kl_cli::{Command, Request};
 use kl_explain::{Shown, tell_flaw, tell_kit_text};
 use kl_jobs::{Cause, KitCause, ObjectCause};
 use kl_model::{KitInput, KitKind};
@@ -171,7 +171,7 @@ fn folder_of(ended: &Ended<'_>) -> Option<Name> {
     if !is_of_kit(ended.cause) {
         return None;
     }
-    match Command::of_words(ended.words?)? {
+    match Request::of_words(ended.words?)?.command {
         Command::Link(dir) => Some(dir),
     }
 }

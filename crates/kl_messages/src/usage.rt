@@ -52,42 +52,61 @@ fn tell_link_words(text: &mut String, words: &[Vec<u8>]) -> Result<(), NoMemory>
             Ok(())
         }
         [folder] => tell_folder(text, folder),
-        [_, option, values @ ..] if option.as_slice() == b"--seed".as_slice() => tell_seed(
-            text, values,
-        ),
-        [_, word, ..] => {
-            let word = Shown(word);
-            write!(
-                text,
-                "the word '{word}' is one too many: 'link' takes one folder"
-            )?;
-            Ok(())
+        [folder, option, values @ ..] if option.as_slice() == b"--seed".as_slice() => {
+            tell_seeded_words(text, folder, values)
         }
+        [_, word, ..] => tell_one_too_many(text, word),
     }
 }
 
-/// What is wrong with a seed.
-fn tell_seed(text: &mut String, values: &[Vec<u8>]) -> Result<(), NoMemory> {
-    let [seed, ..] = values else {
-        write!(
-            text,
-            "'--seed' needs a seed of {SEED_DIGITS} hexadecimal digits behind it"
-        )?;
-        return Ok(());
-    };
+/// What is wrong with a folder, or with the words behind `--seed`.
+fn tell_seeded_words(
+    text: &mut String,
+    folder: &[u8],
+    values: &[Vec<u8>],
+) -> Result<(), NoMemory> {
+    match values {
+        [] => {
+            write!(
+                text,
+                "'--seed' needs a seed of {SEED_DIGITS} hexadecimal digits behind it"
+            )?;
+            Ok(())
+        }
+        [seed] if is_seed(seed) => tell_folder(text, folder),
+        [seed] => tell_seed(text, seed),
+        [_, word, ..] => tell_one_too_many(text, word),
+    }
+}
+
+/// Tells of a word too many.
+fn tell_one_too_many(text: &mut String, word: &[u8]) -> Result<(), NoMemory> {
+    let word = Shown(word);
+    write!(
+        text,
+        "the word '{word}' is one too many: 'link' takes one folder, and '--seed HEX' behind it"
+    )?;
+    Ok(())
+}
+
+/// Whether a word is a seed.
+fn is_seed(word: &[u8]) -> bool {
+    word.len() == SEED_DIGITS && word.iter().all(|digit| digit.is_ascii_hexdigit())
+}
+
+/// What is wrong with a word that is no seed.
+fn tell_seed(text: &mut String, seed: &[u8]) -> Result<(), NoMemory> {
     let (word, count) = (Shown(seed), seed.len());
     if count != SEED_DIGITS {
         write!(
             text,
             "the seed '{word}' has {count} digits, not {SEED_DIGITS}"
         )?;
-    } else if seed.iter().any(|digit| !digit.is_ascii_hexdigit()) {
+    } else {
         write!(
             text,
             "the seed '{word}' has a byte that is no hexadecimal digit"
         )?;
-    } else {
-        write!(text, "'--seed' isn't read yet: 'link' draws nothing so far")?;
     }
     Ok(())
 }

@@ -88,7 +88,7 @@ fn tells_words(rt: HostRuntime) -> Result<(), Fail> {
         ),
         (
             b"link|/kit|/kit",
-            "the word '/kit' is one too many: 'link' takes one folder\n",
+            "the word '/kit' is one too many: 'link' takes one folder, and '--seed HEX' behind it\n",
         ),
         (
             b"link|/kit|--seed",
@@ -103,8 +103,8 @@ fn tells_words(rt: HostRuntime) -> Result<(), Fail> {
             "the seed 'gggggggggggggggggggggggggggggggggggggggggggggggggggggggggggggggg' has a byte that is no hexadecimal digit\n",
         ),
         (
-            b"link|/kit|--seed|0000000000000000000000000000000000000000000000000000000000000000",
-            "'--seed' isn't read yet: 'link' draws nothing so far\n",
+            b"link|kit|--seed|0000000000000000000000000000000000000000000000000000000000000000",
+            "the folder's name 'kit' doesn't begin with a slash, as in '/kit' for the folder kit\n",
         ),
     ];
     for (line, wanted) in rows {
@@ -127,6 +127,10 @@ fn tells_what_has_no_kit(rt: HostRuntime) -> Result<(), Fail> {
     assert_eq!(rt;
         told_of(alloc, &Cause::NoMemory)?.as_str(),
         "relink: out of memory\n"
+    );
+    assert_eq!(rt;
+        told_of(alloc, &Cause::Entropy)?.as_str(),
+        "relink: no random bytes could be read for a seed: '--seed HEX' gives one\n"
     );
     assert_eq!(rt;
         told_of(alloc, &Cause::Store)?.as_str(),

@@ -44,28 +44,45 @@ const LONG: &[u8] =
 const USAGE: &[u8] =
     b"usage: relink link DIR | reorder_kernel | reorder_libs | recover | generate N; --seed HEX may end all but recover\n";
 
+/// A seed, and the digits of it. `examples/order/order.py` draws from it for `/bsd` gaps of 0x7a50, 0x2be90, 0xdf40 and 0x9590 bytes, and
+/// of three inputs the order 1, 2, 0.
+const SEED: [u8; 32] = [
+    0x01, 0x23, 0x45, 0x67, 0x89, 0xab, 0xcd, 0xef, 0x01, 0x23, 0x45, 0x67, 0x89, 0xab, 0xcd, 0xef,
+    0x01, 0x23, 0x45, 0x67, 0x89, 0xab, 0xcd, 0xef, 0x01, 0x23, 0x45, 0x67, 0x89, 0xab, 0xcd, 0xef,
+];
+
+const DIGITS: &[u8] = b"0123456789abcdef0123456789ABCDEF0123456789abcdef0123456789ABCDEF";
+
 const MAP: &[u8] = b"relink map 1
 output /bsd
-seed 0000000000000000000000000000000000000000000000000000000000000000
+seed 0123456789abcdef0123456789abcdef0123456789abcdef0123456789abcdef
 base 0xffffffff81000000
-area text 0xffffffff81000000 0xffffffff81000003
-area rodata 0xffffffff81001000 0xffffffff81001000
-area data 0xffffffff81001000 0xffffffff81001000
-area bss 0xffffffff81001000 0xffffffff81001000
-area init 0xffffffff81000003 0xffffffff81000003
-area fini 0xffffffff81000003 0xffffffff81000003
-area stubs 0xffffffff81000003 0xffffffff81000003
-area eh_frame 0xffffffff81001000 0xffffffff81001000
-area tables 0xffffffff81001000 0xffffffff81001000
-area ctors 0xffffffff81001000 0xffffffff81001000
-area dtors 0xffffffff81001000 0xffffffff81001000
-area init_array 0xffffffff81001000 0xffffffff81001000
-area fini_array 0xffffffff81001000 0xffffffff81001000
-area got 0xffffffff81001000 0xffffffff81001000
-area dynamic 0xffffffff81001000 0xffffffff81001000
+area text 0xffffffff81000000 0xffffffff81007a60
+area rodata 0xffffffff81008000 0xffffffff81033e90
+area data 0xffffffff81034000 0xffffffff81041f40
+area bss 0xffffffff81042000 0xffffffff8104b590
+area init 0xffffffff81007a60 0xffffffff81007a60
+area fini 0xffffffff81007a60 0xffffffff81007a60
+area stubs 0xffffffff81007a60 0xffffffff81007a60
+area eh_frame 0xffffffff81033e90 0xffffffff81033e90
+area tables 0xffffffff81033e90 0xffffffff81033e90
+area ctors 0xffffffff81041f40 0xffffffff81041f40
+area dtors 0xffffffff81041f40 0xffffffff81041f40
+area init_array 0xffffffff81041f40 0xffffffff81041f40
+area fini_array 0xffffffff81041f40 0xffffffff81041f40
+area got 0xffffffff81033e90 0xffffffff81033e90
+area dynamic 0xffffffff81041f40 0xffffffff81041f40
 piece 0 1 0xffffffff81000000 0x0000000000000003
+gap text 0xffffffff81000010 0x0000000000007a50
+gap rodata 0xffffffff81008000 0x000000000002be90
+gap data 0xffffffff81034000 0x000000000000df40
+gap bss 0xffffffff81042000 0x0000000000009590
 end
 ";
+
+/// The line of that link: the digest is that of an image which a script put together from the gABI.
+const LINE: &[u8] =
+    b"/kit linked pieces 1 fields 0 bytes 274240 sha256 29e2eb85fc84868314337aebe187028c551e61fb8370ba8a3d7e06d7f37879eb\n";
 
 pub(crate) fn named(bytes: &[u8]) -> Result<Name, Fail> {
     Ok(Name::from_bytes(bytes)?)
@@ -75,20 +92,32 @@ fn object(alloc: Global) -> Result<Vec<u8>, Fail> {
     Ok(hex::decode(alloc, OBJECT)?)
 }
 
-/// The answer to words over a store, with what was written to the sink.
-pub(crate) fn answer(
+/// The answer to words over a store, with a source of so many blocks and a sink that takes so many calls, and what was written.
+fn answer_with(
     alloc: Global,
     words: &[&[u8]],
     store: &mut MemStore,
+    blocks: usize,
+    writes: u64,
 ) -> Result<(Exit, VecSink), Fail> {
     let mut given = Vec::new(alloc);
     for word in words {
         given.push(Vec::from_slice(alloc, word)?)?;
     }
-    let mut entropy = ListEntropy::new(Vec::new(alloc));
+    let mut entropy = ListEntropy::new(vec![in alloc; SEED; blocks]?);
     let mut out = VecSink::new(alloc);
+    out.fail_from(writes);
     let exit = run(alloc, &given, store, &mut entropy, &mut out);
     Ok((exit, out))
+}
+
+/// The answer to words over a store, with a source that gives `SEED` once.
+pub(crate) fn answer(
+    alloc: Global,
+    words: &[&[u8]],
+    store: &mut MemStore,
+) -> Result<(Exit, VecSink), Fail> {
+    answer_with(alloc, words, store, 1, u64::MAX)
 }
 
 /// A store with a kit text and an object in the folder `/kit`.
@@ -114,35 +143,87 @@ fn two_store(
     Ok(store)
 }
 
-#[test]
-fn links_one_object(rt: HostRuntime) -> Result<(), Fail> {
-    let alloc = rt.alloc();
-    let mut store = kit_store(alloc, KIT, &object(alloc)?)?;
-    let (exit, out) = answer(alloc, &[b"link", b"/kit"], &mut store)?;
-    assert_eq!(rt;
-        (exit.status, exit.cause, exit.batches),
-        (0, Cause::Done, 0)
-    );
-    assert_eq!(rt; out.bytes(), b"".as_slice());
+/// Whether a store has the files that a link of `KIT` leaves.
+fn is_linked(store: &MemStore) -> Result<bool, Fail> {
     let image = store.get(&named(b"/kit/linked.relink")?).ok_or("an image")?;
-    assert_eq!(rt; image.len(), 4099);
-    assert_eq!(rt;
-        &image[24..32],
-        [0, 0, 0, 0x81, 0xff, 0xff, 0xff, 0xff].as_slice()
-    );
-    assert_eq!(rt; &image[4096..], b"\xf4\xeb\xfd".as_slice());
     let map = store
         .get(&named(b"/kit/linked.map.relink")?)
         .ok_or("a map")?;
-    assert_eq!(rt; map, MAP);
-    assert_eq!(rt; store.get(&named(b"/kit/link.conf")?), Some(KIT));
+    let entry: &[u8] = &[0, 0, 0, 0x81, 0xff, 0xff, 0xff, 0xff];
+    let text: &[u8] = b"\xf4\xeb\xfd\xcc";
+    Ok(image.len() == 274_240
+        && &image[24..32] == entry
+        && &image[4096..4100] == text
+        && map == MAP
+        && store.get(&named(b"/kit/link.conf")?) == Some(KIT))
+}
+
+#[test]
+fn links_by_a_given_seed_or_a_block(rt: HostRuntime) -> Result<(), Fail> {
+    let alloc = rt.alloc();
+    let given: [&[u8]; 4] = [b"link", b"/kit", b"--seed", DIGITS];
+    for (count, blocks) in [(4, 0), (2, 1)] {
+        let mut store = kit_store(alloc, KIT, &object(alloc)?)?;
+        let (exit, out) = answer_with(alloc, &given[..count], &mut store, blocks, u64::MAX)?;
+        assert_eq!(rt;
+            (exit.status, exit.cause, exit.batches),
+            (0, Cause::Done, 0)
+        );
+        assert_eq!(rt; out.bytes(), LINE);
+        assert!(rt; is_linked(&store)?);
+    }
+    Ok(())
+}
+
+#[test]
+fn tells_faults_of_the_source_and_the_sink(rt: HostRuntime) -> Result<(), Fail> {
+    let alloc = rt.alloc();
+    let mut store = kit_store(alloc, KIT, &object(alloc)?)?;
+    let (exit, out) = answer_with(alloc, &[b"link", b"/kit"], &mut store, 0, u64::MAX)?;
+    assert_eq!(rt; (exit.status, exit.cause), (5, Cause::Entropy));
+    assert_eq!(rt; out.bytes(), b"relink: entropy fault\n".as_slice());
+    assert_eq!(rt; store.get(&named(b"/kit/linked.relink")?), None);
+    let (exit, out) = answer_with(alloc, &[b"link", b"/kit"], &mut store, 1, 0)?;
+    assert_eq!(rt; (exit.status, exit.cause), (6, Cause::Sink));
+    assert_eq!(rt; out.bytes(), b"".as_slice());
+    assert!(rt; is_linked(&store)?);
+    Ok(())
+}
+
+#[test]
+fn links_in_the_drawn_order(rt: HostRuntime) -> Result<(), Fail> {
+    let alloc = rt.alloc();
+    let call = hex::decode(alloc, CALL)?;
+    let mut store = MemStore::new(alloc);
+    let text = b"kind kernel\noutput /bsd\nentry start\nobject a.o\nhead k.o\nobject b.o\nobject c.o\n";
+    store.put(&named(b"/kit/link.conf")?, text)?;
+    store.put(&named(b"/kit/k.o")?, &object(alloc)?)?;
+    for name in [b"/kit/a.o", b"/kit/b.o", b"/kit/c.o"] {
+        store.put(&named(name)?, &call)?;
+    }
+    let (exit, _) = answer(alloc, &[b"link", b"/kit"], &mut store)?;
+    assert_eq!(rt; (exit.status, exit.cause), (0, Cause::Done));
+    let map = store
+        .get(&named(b"/kit/linked.map.relink")?)
+        .ok_or("a map")?;
+    // behind the gap, whose end is 0x7a60 behind the base, stand b.o, c.o and a.o
+    let pieces: [&[u8]; 4] = [
+        b"\npiece 0 1 0xffffffff81000000 ",
+        b"\npiece 1 1 0xffffffff81007a80 ",
+        b"\npiece 2 1 0xffffffff81007a60 ",
+        b"\npiece 3 1 0xffffffff81007a70 ",
+    ];
+    for piece in pieces {
+        let found = map.windows(piece.len()).any(|part| part == piece);
+        assert!(rt; found, "{piece:?}");
+    }
     Ok(())
 }
 
 #[test]
 fn tells_usage(rt: HostRuntime) -> Result<(), Fail> {
     let alloc = rt.alloc();
-    let cases: [&[&[u8]]; 7] = [
+    let cases: [&[&[u8]]; 12] = [
         &[],
         &[b"link"],
         &[b"link", b"kit"],
@@ -150,6 +231,11 @@ fn tells_usage(rt: HostRuntime) -> Result<(), Fail> {
         &[b"link", LONG],
         &[b"link", b"/kit", b"/kit"],
         &[b"reorder_kernel", b"/kit"],
+        &[b"link", b"/kit", b"--seed"],
+        &[b"link", b"/kit", b"--seed", &DIGITS[1..]],
+        &[b"link", b"/kit", b"--seed", LONG],
+        &[b"link", b"--seed", DIGITS, b"/kit"],
+        &[b"link", b"/kit", b"--seed", DIGITS, b"/kit"],
     ];
     for words in cases {
         let mut store = MemStore::new(alloc);
@@ -174,10 +260,11 @@ fn links_in_kit_order(rt: HostRuntime) -> Result<(), Fail> {
     let (exit, _) = answer(alloc, &[b"link", b"/kit"], &mut store)?;
     assert_eq!(rt; (exit.status, exit.cause), (0, Cause::Done));
     let image = store.get(&named(b"/kit/linked.relink")?).ok_or("an image")?;
-    assert_eq!(rt; image.len(), 4117);
+    // the call stands behind the gap, 0x7a60 behind the base
+    assert_eq!(rt; &image[0x1000..0x1004], b"\xf4\xeb\xfd\xcc".as_slice());
     assert_eq!(rt;
-        &image[4096..],
-        b"\xf4\xeb\xfd\xcc\xcc\xcc\xcc\xcc\xcc\xcc\xcc\xcc\xcc\xcc\xcc\xcc\xe8\xeb\xff\xff\xff".as_slice()
+        &image[0x8a5f..0x8a65],
+        b"\xcc\xe8\x9b\x85\xff\xff".as_slice()
     );
     Ok(())
 }
@@ -186,35 +273,63 @@ fn links_in_kit_order(rt: HostRuntime) -> Result<(), Fail> {
 fn tells_faults_of_a_kit_text(rt: HostRuntime) -> Result<(), Fail> {
     let alloc = rt.alloc();
     let good = object(alloc)?;
-    let rows: [(&[u8], KitFault); 9] = [
-        (b"", KitFault::Missing { what: Needed::Kind }),
-        (b"kind kernel\r\n", KitFault::Byte { line: 1 }),
-        (b"kind kernel\nobjct k.o\n", KitFault::Keyword { line: 2 }),
-        (b"output /bsd\n", KitFault::Misplaced { line: 1 }),
-        (b"kind kernel\nhead\n", KitFault::Count { line: 2 }),
-        (b"kind kernel\nhead ../k.o\n", KitFault::Value { line: 2 }),
+    let rows: [(&[u8], KitFault, &[u8]); 9] = [
+        (
+            b"",
+            KitFault::Missing { what: Needed::Kind },
+            b"relink: kit fault 9 line 0\n",
+        ),
+        (
+            b"kind kernel\r\n",
+            KitFault::Byte { line: 1 },
+            b"relink: kit fault 1 line 1\n",
+        ),
+        (
+            b"kind kernel\nobjct k.o\n",
+            KitFault::Keyword { line: 2 },
+            b"relink: kit fault 2 line 2\n",
+        ),
+        (
+            b"output /bsd\n",
+            KitFault::Misplaced { line: 1 },
+            b"relink: kit fault 3 line 1\n",
+        ),
+        (
+            b"kind kernel\nhead\n",
+            KitFault::Count { line: 2 },
+            b"relink: kit fault 4 line 2\n",
+        ),
+        (
+            b"kind kernel\nhead ../k.o\n",
+            KitFault::Value { line: 2 },
+            b"relink: kit fault 5 line 2\n",
+        ),
         (
             b"kind library\noutput /bsd\n",
             KitFault::Reserved { line: 2 },
+            b"relink: kit fault 6 line 2\n",
         ),
         (
             b"kind kernel\nhead k.o\nhead k.o\n",
             KitFault::Twice { line: 3 },
+            b"relink: kit fault 7 line 3\n",
         ),
         (
             b"kind kernel\noutput /bsd\nhead k.o\n",
             KitFault::Missing {
                 what: Needed::Entry,
             },
+            b"relink: kit fault 9 line 0\n",
         ),
     ];
-    for (text, fault) in rows {
+    for (text, fault, line) in rows {
         let mut store = kit_store(alloc, text, &good)?;
-        let (exit, _) = answer(alloc, &[b"link", b"/kit"], &mut store)?;
+        let (exit, out) = answer(alloc, &[b"link", b"/kit"], &mut store)?;
         assert_eq!(rt;
             (exit.status, exit.cause),
             (12, Cause::Kit(KitCause::Text(fault)))
         );
+        assert_eq!(rt; out.bytes(), line);
     }
     Ok(())
 }
@@ -225,8 +340,9 @@ fn refuses_libraries_and_archives(rt: HostRuntime) -> Result<(), Fail> {
     let good = object(alloc)?;
     let library = b"kind library\noutput /usr/lib/libk.so.1\nobject absent.o\n";
     let mut store = kit_store(alloc, library, &good)?;
-    let (exit, _) = answer(alloc, &[b"link", b"/kit"], &mut store)?;
+    let (exit, out) = answer(alloc, &[b"link", b"/kit"], &mut store)?;
     assert_eq!(rt; (exit.status, exit.cause), (19, Cause::NotYet));
+    assert_eq!(rt; out.bytes(), b"".as_slice());
     // an archive, and a thin one
     let archives: [&[u8]; 2] = [b"!<arch>\n", b"!<thin>\n"];
     for archive in archives {
@@ -251,7 +367,7 @@ fn tells_flaws_of_an_object(rt: HostRuntime) -> Result<(), Fail> {
         assert!(rt; place < bad.len());
         bad[place] = byte;
         let mut store = kit_store(alloc, KIT, &bad)?;
-        let (exit, _) = answer(alloc, &[b"link", b"/kit"], &mut store)?;
+        let (exit, out) = answer(alloc, &[b"link", b"/kit"], &mut store)?;
         let fault = ObjectCause::Elf(ReadFault { kind, at });
         let cause = Cause::Object {
             input: 0,
@@ -259,6 +375,7 @@ fn tells_flaws_of_an_object(rt: HostRuntime) -> Result<(), Fail> {
             fault,
         };
         assert_eq!(rt; (exit.status, exit.cause), (13, cause));
+        assert_eq!(rt; out.bytes(), b"relink: object 0 line 4\n".as_slice());
         assert_eq!(rt; store.get(&named(b"/kit/linked.relink")?), None);
     }
     Ok(())
@@ -291,17 +408,25 @@ fn tells_the_first_input_in_kit_order(rt: HostRuntime) -> Result<(), Fail> {
 #[test]
 fn tells_the_fault_of_a_link(rt: HostRuntime) -> Result<(), Fail> {
     let alloc = rt.alloc();
-    let mut other = object(alloc)?;
-    assert!(rt; 121 < other.len());
-    other[121] = b'S';
-    let mut store = kit_store(alloc, KIT, &other)?;
-    let (exit, _) = answer(alloc, &[b"link", b"/kit"], &mut store)?;
-    let name = Listed::from_vec(Vec::from_slice(alloc, b"start")?);
+    let text = b"kind kernel\noutput /bsd\nentry st\\art~\nhead k.o\n";
+    let mut store = kit_store(alloc, text, &object(alloc)?)?;
+    let (exit, out) = answer(alloc, &[b"link", b"/kit"], &mut store)?;
+    let name = Listed::from_vec(Vec::from_slice(alloc, b"st\\art~")?);
     assert_eq!(rt;
         (exit.status, exit.cause),
         (14, Cause::Link(LinkFault::NoEntry { name }))
     );
+    assert_eq!(rt;
+        out.bytes(),
+        b"relink: link fault 8 st\\x5cart~\n".as_slice()
+    );
     Ok(())
+}
+
+/// How a link of a store's kit ends where a file isn't read, with the line of it.
+fn file_cause(alloc: Global, store: &mut MemStore, line: &[u8]) -> Result<(Cause, bool), Fail> {
+    let (exit, out) = answer(alloc, &[b"link", b"/kit"], store)?;
+    Ok((exit.cause, exit.status == 12 && out.bytes() == line))
 }
 
 #[test]
@@ -309,22 +434,22 @@ fn tells_absent_and_long_files(rt: HostRuntime) -> Result<(), Fail> {
     let alloc = rt.alloc();
     let conf = named(b"/kit/link.conf")?;
     let mut store = MemStore::new(alloc);
-    let (exit, _) = answer(alloc, &[b"link", b"/kit"], &mut store)?;
     assert_eq!(rt;
-        (exit.status, exit.cause),
-        (12, Cause::Kit(KitCause::Absent(conf)))
+        file_cause(alloc, &mut store, b"relink: absent /kit/link.conf\n")?,
+        (Cause::Kit(KitCause::Absent(conf)), true)
     );
     let mut store = MemStore::new(alloc);
     store.put(&conf, KIT)?;
-    let (exit, _) = answer(alloc, &[b"link", b"/kit"], &mut store)?;
     let absent = KitCause::Absent(named(b"/kit/k.o")?);
-    assert_eq!(rt; (exit.status, exit.cause), (12, Cause::Kit(absent)));
+    assert_eq!(rt;
+        file_cause(alloc, &mut store, b"relink: absent /kit/k.o\n")?,
+        (Cause::Kit(absent), true)
+    );
     let mut store = MemStore::new(alloc);
     store.put(&conf, &vec![in alloc; b'#'; 4_194_305]?)?;
-    let (exit, _) = answer(alloc, &[b"link", b"/kit"], &mut store)?;
     assert_eq!(rt;
-        (exit.status, exit.cause),
-        (12, Cause::Kit(KitCause::TooLong(conf)))
+        file_cause(alloc, &mut store, b"relink: too long /kit/link.conf\n")?,
+        (Cause::Kit(KitCause::TooLong(conf)), true)
     );
     Ok(())
 }
@@ -335,12 +460,13 @@ fn tells_store_faults(rt: HostRuntime) -> Result<(), Fail> {
     for call in 0..9 {
         let mut store = kit_store(alloc, KIT, &object(alloc)?)?;
         store.fail_at(call, true)?;
-        let (exit, _) = answer(alloc, &[b"link", b"/kit"], &mut store)?;
+        let (exit, out) = answer(alloc, &[b"link", b"/kit"], &mut store)?;
         assert_eq!(rt;
             (exit.status, exit.cause),
             (4, Cause::Store),
             "at call {call}"
         );
+        assert_eq!(rt; out.bytes(), b"relink: store fault\n".as_slice());
         assert_eq!(rt; store.get(&named(b"/kit/link.conf")?), Some(KIT));
     }
     Ok(())

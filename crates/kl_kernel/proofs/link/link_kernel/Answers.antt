@@ -4,7 +4,7 @@ use Rattle.std.proofs.lemmas.Result.{err_from_is_err_and}
 use Rattle.kl_layout.specs.Spans.{as_link_fault}
 use Rattle.kl_write.proofs.KernelValues.{few_slots}
 use Rattle.kl_kernel.proofs.LinkFaults.{first_of_names}
-use Rattle.kl_kernel.proofs.LinkSteps.{addresses, carries_kit, graph_order, laid_kernel, made_small, none_stands, range_is, sources, span_is}
+use Rattle.kl_kernel.proofs.LinkSteps.{addresses, carries_kit, few_placed, graph_order, laid_kernel, made_small, none_stands, range_is, sources, span_is}
 use Rattle.kl_kernel.proofs.RoomyKits.{roomy_err}
 use Rattle.kl_kernel.proofs.link.link_kernel.Goals as goal
 
@@ -71,6 +71,12 @@ returns-clause-ok c =
     carries_kit c.args.kit.now c.args.inputs.now (option_copied c.args.gaps) c.args.order.now q.kit q.kernel q.inputs q.order c.in_ok-graph.graph c.in_ok-graph.ensures.ok c.in_ok-graph.ensures.graph
     c.made_areas.result (c.made_areas.ensures c.args.kit.now c.in_ok-graph.graph q.kernel (c.items-slots.ensures ∙ c.in_ok-needs.ensures.slots)) c.in_ok-placement.placement p.laid p.names p.placed p.small
     c.in_ok-graph.ensures.sound c.in_ok-image.ensures.sound c.in_ok-image.image.items c.in_ok-image.ensures.image
+
+pub returns-clause-few : goal.returns-clause-few
+returns-clause-few c =
+    let q = c.requires in let p = c.in_ok-placement.ensures in
+    few_placed c.args.kit.now c.args.inputs.now (option_copied c.args.gaps) c.args.order.now q.kit q.kernel q.inputs q.order c.in_ok-graph.graph c.in_ok-graph.ensures.ok c.in_ok-graph.ensures.graph
+    c.made_areas.result (c.made_areas.ensures c.args.kit.now c.in_ok-graph.graph q.kernel (c.items-slots.ensures ∙ c.in_ok-needs.ensures.slots)) c.in_ok-placement.placement p.laid p.names p.placed p.small
 
 pub returns-clause-sound : goal.returns-clause-sound
 returns-clause-sound c =

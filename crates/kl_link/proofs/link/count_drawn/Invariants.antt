@@ -4,7 +4,7 @@ use Rattle.kl_model.specs.Kept.{part_number}
 use Rattle.kl_model.specs.Lists.{each_from, only_if}
 use Rattle.kl_model.specs.Orders.{drawn_count}
 use Rattle.kl_model.specs.declared.object.Part.TheVariants.{Drawn}
-use Rattle.kl_jobs.proofs.link.count_drawn.Given as goal
+use Rattle.kl_link.proofs.link.count_drawn.Given as goal
 
 -- those so far and those that are left are all
 abbrev pub invariant-loop-input : goal.invariant-loop-input

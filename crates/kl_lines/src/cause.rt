@@ -1,0 +1,198 @@
+// Why a command ended.
+ghost use Rattle.std.specs.Prelude.{◌≡◌};
+ghost use Rattle.kl_store.specs.Calls.{HasCause};
+ghost use Rattle.kl_store.specs.Outside.{Writes};
+ghost use Rattle.kl_lines.specs.Lines.{cause_line, entry_line, kit_fault_number, kit_fault_place, kit_line, link_fault_line, named_line, object_line, span_line};
+
+use crate::escaped::write_escaped;
+use crate::pieces::write_pieces;
+use itoa::Buffer;
+use kl_jobs::{Cause, KitCause};
+use kl_kit::KitFault;
+use kl_model::{FieldAt, LinkFault};
+use kl_store::{Failed, Sink};
+
+/// The line for words that are no command.
+const USAGE: &[u8] =
+    b"usage: relink link DIR | reorder_kernel | reorder_libs | recover | generate N; --seed HEX may end all but recover\n";
+
+/// Writes why a command ended, in a line that scripts read. Nothing is written where all was done, or where the form of a kit isn't
+/// linked yet.
+pub fn write_cause<K: Sink>(out: &mut K, cause: &Cause) -> Result<(), Failed>
+    ensures writes { Writes (cause_line cause.now) (K.meaning out.old) (K.meaning out.new) result }
+    ensures cause { HasCause (K.faults out.old) (K.faults out.new) result }
+{
+    match cause {
+        Cause::Done | Cause::Sink | Cause::NotYet => Ok(()),
+        Cause::Usage => out.write(USAGE),
+        Cause::NoMemory => out.write(b"relink: out of memory\n"),
+        Cause::Store => out.write(b"relink: store fault\n"),
+        Cause::Entropy => out.write(b"relink: entropy fault\n"),
+        Cause::Kit(cause) => write_kit(out, cause),
+        Cause::Object { input, line, .. } => write_object(out, *input, *line),
+        Cause::Link(fault) => write_link_fault(out, fault),
+    }
+}
+
+/// The number of a fault of a kit text.
+fn kit_fault_number(fault: &KitFault) -> u32
+    ensures { result ≡ kit_fault_number fault.now }
+{
+    match fault {
+        KitFault::Byte { .. } => 1,
+        KitFault::Keyword { .. } => 2,
+        KitFault::Misplaced { .. } => 3,
+        KitFault::Count { .. } => 4,
+        KitFault::Value { .. } => 5,
+        KitFault::Reserved { .. } => 6,
+        KitFault::Twice { .. } => 7,
+        KitFault::Limit { .. } => 8,
+        KitFault::Missing { .. } => 9,
+    }
+}
+
+/// The line of a fault of a kit text, and 0 for what is missing.
+fn kit_fault_place(fault: &KitFault) -> u32
+    ensures { result ≡ kit_fault_place fault.now }
+{
+    match fault {
+        KitFault::Byte { line }
+        | KitFault::Keyword { line }
+        | KitFault::Misplaced { line }
+        | KitFault::Count { line }
+        | KitFault::Value { line }
+        | KitFault::Reserved { line }
+        | KitFault::Twice { line }
+        | KitFault::Limit { line } => *line,
+        KitFault::Missing { .. } => 0,
+    }
+}
+
+/// Writes why a kit isn't read.
+fn write_kit<K: Sink>(out: &mut K, cause: &KitCause) -> Result<(), Failed>
+    ensures writes { Writes (kit_line cause.now) (K.meaning out.old) (K.meaning out.new) result }
+    ensures cause { HasCause (K.faults out.old) (K.faults out.new) result }
+{
+    let mut number = Buffer::new();
+    let mut place = Buffer::new();
+    match cause {
+        KitCause::Text(fault) => write_pieces(
+            out,
+            &[
+                b"relink: kit fault ",
+                number.format(kit_fault_number(fault)).as_bytes(),
+                b" line ",
+                place.format(kit_fault_place(fault)).as_bytes(),
+                b"\n",
+            ],
+        ),
+        KitCause::Absent(name) => write_pieces(out, &[b"relink: absent ", name.bytes(), b"\n"]),
+        KitCause::TooLong(name) => write_pieces(out, &[b"relink: too long ", name.bytes(), b"\n"]),
+        KitCause::Total { line, .. } => write_pieces(
+            out,
+            &[
+                b"relink: over limit line ",
+                place.format(*line).as_bytes(),
+                b"\n",
+            ],
+        ),
+    }
+}
+
+/// Writes that an object isn't read, by its number and its line in the kit text.
+fn write_object<K: Sink>(out: &mut K, input: u32, line: u32) -> Result<(), Failed>
+    ensures writes { Writes (object_line input line) (K.meaning out.old) (K.meaning out.new) result }
+    ensures cause { HasCause (K.faults out.old) (K.faults out.new) result }
+{
+    let mut number = Buffer::new();
+    let mut place = Buffer::new();
+    write_pieces(
+        out,
+        &[
+            b"relink: object ",
+            number.format(input).as_bytes(),
+            b" line ",
+            place.format(line).as_bytes(),
+            b"\n",
+        ],
+    )
+}
+
+/// Writes why a kit isn't linked.
+fn write_link_fault<K: Sink>(out: &mut K, fault: &LinkFault) -> Result<(), Failed>
+    ensures writes { Writes (link_fault_line fault.now) (K.meaning out.old) (K.meaning out.new) result }
+    ensures cause { HasCause (K.faults out.old) (K.faults out.new) result }
+{
+    match fault {
+        LinkFault::Undefined { name, .. } => write_named(out, 1, name.items()),
+        LinkFault::Doubled { name, .. } => write_named(out, 2, name.items()),
+        LinkFault::Kind { from, .. } => write_entry(out, 3, from),
+        LinkFault::Range { from, .. } => write_entry(out, 4, from),
+        LinkFault::NotFixed { from } => write_entry(out, 5, from),
+        LinkFault::ReadOnlyField { from } => write_entry(out, 6, from),
+        LinkFault::Removed { from } => write_entry(out, 7, from),
+        LinkFault::NoEntry { name } => write_named(out, 8, name.items()),
+        LinkFault::EdgeClash { name } => write_named(out, 9, name.items()),
+        LinkFault::Span { found, .. } => write_span(out, *found),
+        LinkFault::NoMemory => out.write(b"relink: out of memory\n"),
+    }
+}
+
+/// Writes the span of an image, in bytes, that passes the limit.
+fn write_span<K: Sink>(out: &mut K, found: u64) -> Result<(), Failed>
+    ensures writes { Writes (span_line found) (K.meaning out.old) (K.meaning out.new) result }
+    ensures cause { HasCause (K.faults out.old) (K.faults out.new) result }
+{
+    let mut span = Buffer::new();
+    write_pieces(
+        out,
+        &[
+            b"relink: link fault 10 found ",
+            span.format(found).as_bytes(),
+            b"\n",
+        ],
+    )
+}
+
+/// Writes the number of a fault of a link and the name of a symbol.
+fn write_named<K: Sink>(out: &mut K, number: u32, name: &[u8]) -> Result<(), Failed>
+    ensures writes { Writes (named_line number name.now) (K.meaning out.old) (K.meaning out.new) result }
+    ensures cause { HasCause (K.faults out.old) (K.faults out.new) result }
+{
+    let mut digits = Buffer::new();
+    write_pieces(
+        out,
+        &[
+            b"relink: link fault ",
+            digits.format(number).as_bytes(),
+            b" ",
+        ],
+    )?;
+    write_escaped(out, name)?;
+    out.write(b"\n")
+}
+
+/// Writes the number of a fault of a link and a relocation entry.
+fn write_entry<K: Sink>(out: &mut K, number: u32, from: &FieldAt) -> Result<(), Failed>
+    ensures writes { Writes (entry_line number from.now) (K.meaning out.old) (K.meaning out.new) result }
+    ensures cause { HasCause (K.faults out.old) (K.faults out.new) result }
+{
+    let mut digits = Buffer::new();
+    let mut input = Buffer::new();
+    let mut section = Buffer::new();
+    let mut index = Buffer::new();
+    write_pieces(
+        out,
+        &[
+            b"relink: link fault ",
+            digits.format(number).as_bytes(),
+            b" input ",
+            input.format(from.input).as_bytes(),
+            b" section ",
+            section.format(from.section).as_bytes(),
+            b" entry ",
+            index.format(from.index).as_bytes(),
+            b"\n",
+        ],
+    )
+}

@@ -1,0 +1,10 @@
+//! The lines that a command writes for scripts, in pieces and without memory.
+#![tactic(auto)]
+
+mod cause;
+mod escaped;
+mod pieces;
+mod report;
+
+pub use cause::write_cause;
+pub use report::write_link;
