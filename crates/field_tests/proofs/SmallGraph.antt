@@ -1,11 +1,12 @@
 -- The graph of the small library is sound.
 use Rattle.std.proofs.Common.{ℕ, zero, suc, ◌≡◌, ◌+◌, ◌<◌, ◌∙◌, List, [], ◌∷◌, length, get_or, refl, sym, arith, rules, Bool, true, false, ◌&&◌, inl, lit<, lit≤}
 use Rattle.std.proofs.lemmas.Bool.{leb-true, ltb-true}
-use Rattle.std.specs.Prelude.{IfSome, All, AllPairs, pos, nat_le, nat_lt}
+use Rattle.std.specs.Prelude.{All, AllPairs, None, pos, nat_le, nat_lt}
 use Rattle.std.specs.List.{list_all}
 use Rattle.std.proofs.lemmas.List.Elements.{All-cons}
 use Rattle.std.proofs.lemmas.List.Kept.{AllPairs-cons}
 use Rattle.kl_base.specs.declared.class.Class.TheVariants.{Bss, Text}
+use Rattle.kl_base.specs.declared.limits.TheConstants.{INPUT_BYTES_LIMIT}
 use Rattle.kl_model.specs.Relocations.{width}
 use Rattle.kl_model.specs.Sound.{IsSoundField, IsSoundGraph, IsSoundName, IsSoundPiece, IsSoundTarget, StandApart}
 use Rattle.kl_model.specs.declared.graph.DynName.{DynName}
