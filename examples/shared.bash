@@ -88,7 +88,7 @@ link_and_show() {
     echo "== the image: build/$example/kit/linked.relink"
     readelf -hlW "$kit/linked.relink"
     objcopy -O binary -j .text "$kit/kernel.o" "$code"
-    tail -c +4097 "$kit/linked.relink" | cmp - "$code" || fail "the code in the image is not the object's"
+    tail -c +4097 "$kit/linked.relink" | head -c "$(stat -c %s "$code")" | cmp - "$code" || fail "the code in the image is not the object's"
     echo
     echo "== the map: build/$example/kit/linked.map.relink"
     cat "$kit/linked.map.relink"

@@ -14,6 +14,7 @@ import expected
 CUTS, CHANGES = 24, 72
 NAMES = {0: "linked", 13: "with a flaw", 14: "refused by the linker", 19: "not linked yet"}
 SCRATCH = ".relink"
+SEED = bytes(range(32))
 
 
 def fields(bytes_):
@@ -65,7 +66,7 @@ def is_told(said, status):
 
 def try_object(relink, conf, entry, bytes_):
     """What is wrong with relink's answer to the object, if anything, and the expected status."""
-    status, why, image = expected.expected(bytes_, entry)
+    status, why, image, line = expected.expected(bytes_, entry, SEED)
     with tempfile.TemporaryDirectory() as folder:
         kit = os.path.join(folder, "kit")
         os.mkdir(kit)
@@ -73,13 +74,14 @@ def try_object(relink, conf, entry, bytes_):
         for name, content in given.items():
             with open(os.path.join(kit, name), "wb") as file:
                 file.write(content)
-        run = subprocess.run([relink, "link", "/kit"], cwd=folder, capture_output=True, timeout=60)
+        run = subprocess.run([relink, "link", "/kit", "--seed", SEED.hex()], cwd=folder, capture_output=True, timeout=60)
         left = files(kit)
         others = os.listdir(folder) != ["kit"]
     wrong = []
     if run.returncode != status:
         wrong.append(f"status {run.returncode}, and not {status}: {why}")
-    if run.stdout or not is_told(run.stderr, status):
+    lined = run.stdout.startswith(line) and run.stdout.endswith(b"\n") if status == 14 else run.stdout == line
+    if not lined or not is_told(run.stderr, status):
         wrong.append(f"it printed {run.stdout + run.stderr!r}")
     if others or {name: left[name] for name in left if not name.endswith(SCRATCH)} != given:
         wrong.append("it changed a file that is not its own")

@@ -4,6 +4,13 @@ whether its link has a fault, and the image.
 The program is compared with this second reading of the documents, which shares nothing with it and is written to be read.
 """
 
+import hashlib
+import os
+import sys
+
+sys.path.append(os.path.join(os.path.dirname(os.path.abspath(__file__)), "..", "order"))
+import order
+
 BASE = 0xFFFFFFFF81000000
 PAGE = 4096
 SPAN_LIMIT = 512 << 20
@@ -296,8 +303,9 @@ def area_of(s):
 class Kernel:
     """The kernel of one object, whose entry is a name; making one that has a fault raises it."""
 
-    def __init__(self, read, entry):
+    def __init__(self, read, entry, gaps):
         self.read = read
+        self.gaps = dict(zip(CLASSES, gaps))
         self.addresses = {}
         self.parts = []  # class, address, size, bytes, padding before it
         self.loads = []  # class, start, end
@@ -377,6 +385,10 @@ class Kernel:
                         bytes_ = None if s.kind == NOBITS else self.read.bytes[s.offset:s.offset + s.size]
                         at = self.put(name, n, at, max(s.align, 1), s.size, bytes_, inner)
                         inner = b"\x90" if area in (b".init", b".fini") else padding
+                if area is None:
+                    # the gap stands behind the object, which is the head
+                    gap = self.gaps[name]
+                    at = self.put(name, "gap", at, 16, gap, padding * gap, padding)
             if name == "rodata" and self.slots:
                 at = self.put(name, "table", at, 8, 8 * len(self.slots), None, padding)
             if name == "bss":
@@ -421,6 +433,7 @@ class Kernel:
             (2, 2), (62, 2), (1, 4), (self.address(self.definitions[entry]) % 2**64, 8), (64 if loads else 0, 8), (0, 8),
             (0, 4), (64, 2), (56, 2), (len(loads), 2), (0, 2), (0, 2), (0, 2),
         )
+        self.told = len(self.kept) + len(self.commons), len(self.fields)
         image = b"\x7fELF\x02\x01\x01" + bytes(9) + b"".join(n.to_bytes(width, "little") for n, width in numbers) + headers
         self.image = image.ljust(PAGE, b"\0") + bytes(memory) if ends else image
 
@@ -453,13 +466,21 @@ def up(n, align):
     return (n + align - 1) // align * align
 
 
-def expected(bytes_, entry):
-    """The status of a link of the object alone, a word on why, and the image."""
+FAULTS = {"Undefined": 1, "Doubled": 2, "Kind": 3, "Range": 4, "Removed": 7, "NoEntry": 8, "Span": 10}
+
+
+def expected(bytes_, entry, seed):
+    """The status of a link of the object alone, as the kit's fourth line, a word on why, the image, and how the line begins that is
+    written to standard output."""
     if bytes_[:8] in (b"!<arch>\n", b"!<thin>\n"):
-        return 19, "an archive", None
+        return 19, "an archive", None, b""
     try:
-        return 0, "linked", Kernel(Object(bytes_), entry).image
+        kernel = Kernel(Object(bytes_), entry, order.gaps(seed, b"/bsd"))
     except Flaw as flaw:
-        return 13, str(flaw), None
+        return 13, str(flaw), None, b"relink: object 0 line 4\n"
     except LinkFault as fault:
-        return 14, str(fault), None
+        return 14, str(fault), None, b"relink: link fault %d " % FAULTS[str(fault)]
+    pieces, fields = kernel.told
+    digest = hashlib.sha256(kernel.image).hexdigest()
+    line = f"/kit linked pieces {pieces} fields {fields} bytes {len(kernel.image)} sha256 {digest}\n"
+    return 0, "linked", kernel.image, line.encode()

@@ -1,5 +1,5 @@
 -- The steps of a link: names, the layout, the image.
-use Rattle.std.proofs.Common.{◌≡◌, ◌<◌, ◌≤◌, ◌^◌, ◌∙◌, ℕ, List, [], ap, length, map, length-append, subst, sym, arith}
+use Rattle.std.proofs.Common.{◌≡◌, ◌<◌, ◌≤◌, ◌^◌, ◌∙◌, ℕ, List, [], ◌++◌, ap, length, map, length-append, subst, sym, arith}
 use Rattle.std.specs.Prelude.{Option, Some, None, slice_get}
 use Rattle.std.proofs.lemmas.List.{length-map}
 use Rattle.kl_base.specs.declared.limits.TheConstants.{SPAN_LIMIT}
@@ -17,6 +17,7 @@ use Rattle.kl_model.specs.Sizes.{made_of}
 use Rattle.kl_model.specs.Sound.{IsSoundGraph}
 use Rattle.kl_model.specs.declared.graph.Graph.{Graph}
 use Rattle.kl_model.specs.declared.graph.Piece.{Piece}
+use Rattle.kl_model.specs.declared.graph.PieceId.{PieceId}
 use Rattle.kl_model.specs.declared.kit.Kit.{Kit}
 use Rattle.kl_model.specs.declared.kit.KitKind.TheVariants.{Kernel}
 use Rattle.kl_model.specs.declared.object.Input.{Input}
@@ -31,6 +32,12 @@ use Rattle.kl_write.proofs.WholeOrder.{whole_order}
 use Rattle.kl_kernel.proofs.AreaAddresses.{area_addresses}
 use Rattle.kl_kernel.proofs.LinkFaults.{of_range, of_span}
 use Rattle.kl_kernel.proofs.Sources.{have_sources}
+
+abbrev placed_pair : Placed → PieceId × ℕ
+placed_pair x = (x.id, x.size)
+
+abbrev piece_pair : Piece → PieceId × ℕ
+piece_pair x = (x.id, x.size)
 
 module _ (kit : Kit) (inputs : List Input) (gaps : Option Gaps) (order : List ℕ) (is_kit : IsKit kit) (kernel : kit.kind ≡ Kernel) (fit : AreFit inputs)
     (o : IsOrder (drawn_count (map (λ x. x.place) inputs)) order) (g : Graph) (is : g ≡ graph kit inputs) (sound : IsSoundGraph kit g) where
@@ -69,10 +76,10 @@ module _ (kit : Kit) (inputs : List Input) (gaps : Option Gaps) (order : List �
     -- the placement has a piece of the graph or a gap
     pub few_placed : length p.pieces < 2 ^ 32
     few_placed =
-        let named = ap length names in
-        let placed_count = length-map p.pieces (λ (x : Placed). (x.id, x.size)) in
-        let piece_count = length-map g.pieces (λ (x : Piece). (x.id, x.size)) in
-        let both = length-append (map (λ (x : Piece). (x.id, x.size)) g.pieces) (gap_names gaps) in
+        let named : length (map placed_pair p.pieces) ≡ length (map piece_pair g.pieces ++ gap_names gaps) = ap length names in
+        let placed_count : length (map placed_pair p.pieces) ≡ length p.pieces = length-map p.pieces placed_pair in
+        let piece_count : length (map piece_pair g.pieces) ≡ length g.pieces = length-map g.pieces piece_pair in
+        let both = length-append (map piece_pair g.pieces) (gap_names gaps) in
         let limit = sound.piece_count in
         let gap_count = few_gaps gaps in
         omega arith
