@@ -1,6 +1,9 @@
-// Orders and gaps. Each expected value was printed by examples/order/order.py.
-use kl_draw::{draw_gaps, draw_order, sub_seed};
+// Orders and gaps. Each expected value was printed by examples/order/order.py, those of objects by examples/order/gap_object.py.
+ghost use Rattle.kl_model.specs.Fit.{AreGaps};
+
+use kl_draw::{draw_gaps, draw_order, gap_object, sub_seed};
 use kl_model::Gaps;
+use sha2::{Digest, Sha256};
 use std::alloc::Global;
 use std::test::Fail;
 
@@ -85,5 +88,30 @@ fn draws_gaps(rt: HostRuntime) -> Result<(), Fail> {
     };
     let sub = sub_seed(&seed(alloc, ASCENDING)?, LIBRARY, b"gaps");
     assert!(rt; draw_gaps(&sub) == library);
+    Ok(())
+}
+
+/// The length of a gap object, in bytes, and its digest.
+fn made(alloc: Global, gaps: &Gaps) -> Result<(usize, [u8; 32]), Fail>
+    requires { AreGaps gaps.now }
+{
+    let file = gap_object(alloc, gaps)?;
+    Ok((file.len(), Sha256::digest(file.as_slice())))
+}
+
+#[test]
+fn makes_gap_objects(rt: HostRuntime) -> Result<(), Fail> {
+    let alloc = rt.alloc();
+    let least = Gaps {
+        text: 16,
+        rodata: 16,
+        rwdata: 16,
+        bss: 16,
+    };
+    let digest = b"b9601ef537354b07a7c7dc2fcc8b4dd431810ced3b65805cd93ffe7ae1fe63bf";
+    assert!(rt; made(alloc, &least)? == (536, seed(alloc, digest)?));
+    let drawn = draw_gaps(&sub_seed(&ZEROS, KERNEL, b"gaps"));
+    let digest = b"efa76658005d28159724b8ad171f2ac376699e47f31d0e6854ef4169f62c5b2f";
+    assert!(rt; made(alloc, &drawn)? == (384_840, seed(alloc, digest)?));
     Ok(())
 }

@@ -1,3 +1,4 @@
+pub mod GapRead
 pub mod ListsMade
 pub mod MadeInputs
 pub mod MadeGraphs

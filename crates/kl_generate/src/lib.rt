@@ -1,8 +1,11 @@
-//! Makes a kernel's kit from a number of objects, for trials of the linker.
+//! Objects that are made to be linked: the gap object of a kernel's kit, and a kernel's kit that is made from a number of objects, for
+//! trials of the linker.
 #![tactic(auto)]
 
+mod gap_law;
 mod laws;
 mod limits;
 
+pub use gap_law::gap_objects;
 pub use laws::{made_graph, made_links};
 pub use limits::{MADE_BYTES_LIMIT, MADE_LIMIT};

@@ -19,4 +19,6 @@ pub mod Scans
 pub mod Stamps
 pub mod Limits
 pub mod Fits
+pub mod KnownRecords
+pub mod KnownFiles
 mod Examples

@@ -1,0 +1,110 @@
+// The gap object of a kernel's kit.
+ghost use Rattle.std.specs.Prelude.{ℕ, ◌≡◌, ◌≤◌, ◌++◌, flat_map, length, replicate, IfOk, OnOk};
+ghost use Rattle.kl_base.specs.declared.limits.TheConstants.{SIZE_LIMIT};
+ghost use Rattle.kl_draw.specs.GapFile.{gap_file, gap_sections, headers_place};
+ghost use Rattle.kl_model.specs.Fit.{AreGaps};
+ghost use Rattle.kl_model.specs.Written.{shdr_bytes};
+
+use crate::record::{NULL_SECTION, head_bytes, relocatable_head, section_bytes};
+use kl_base::NoMemory;
+use kl_elf::abi::{SHF_ALLOC, SHF_EXECINSTR, SHF_WRITE, SHT_NOBITS, SHT_PROGBITS, SHT_STRTAB};
+use kl_elf::{Ehdr, Shdr};
+use kl_model::Gaps;
+use kl_model::area::INT3;
+use std::alloc::Global;
+
+/// How many section headers the gap object has.
+const SECTION_COUNT: u16 = 6;
+
+/// The number of the string table of their names.
+const NAMES_NUMBER: u16 = 5;
+
+/// The names, and zero bytes up to a multiple of 8.
+const NAMES: [u8; 40] = *b"\0.text\0.rodata\0.data\0.bss\0.shstrtab\0\0\0\0\0";
+
+/// How many bytes the names have.
+const NAMES_SIZE: u64 = 36;
+
+/// The section headers of the gap object.
+fn sections(gaps: &Gaps) -> [Shdr; 6]
+    requires { AreGaps gaps.now }
+    ensures { result ≡ gap_sections gaps.now }
+{
+    let text = Shdr {
+        name: 1,
+        kind: SHT_PROGBITS,
+        flags: SHF_ALLOC | SHF_EXECINSTR,
+        offset: Ehdr::SIZE as u64,
+        size: gaps.text,
+        addralign: 16,
+        ..NULL_SECTION
+    };
+    let rodata = Shdr {
+        name: 7,
+        flags: SHF_ALLOC,
+        offset: text.offset + gaps.text,
+        size: gaps.rodata,
+        ..text
+    };
+    let rwdata = Shdr {
+        name: 15,
+        flags: SHF_ALLOC | SHF_WRITE,
+        offset: rodata.offset + gaps.rodata,
+        size: gaps.rwdata,
+        ..text
+    };
+    let bss = Shdr {
+        name: 21,
+        kind: SHT_NOBITS,
+        offset: rwdata.offset + gaps.rwdata,
+        size: gaps.bss,
+        ..rwdata
+    };
+    let names = Shdr {
+        name: 26,
+        kind: SHT_STRTAB,
+        offset: bss.offset,
+        size: NAMES_SIZE,
+        addralign: 1,
+        ..NULL_SECTION
+    };
+    [NULL_SECTION, text, rodata, rwdata, bss, names]
+}
+
+/// Pushes `count` bytes of one value.
+fn push_bytes(file: &mut Vec<u8>, count: u64, byte: u8) -> Result<(), NoMemory>
+    requires { count ≤ SIZE_LIMIT }
+    ensures { OnOk result (file.new.items ≡ file.old.items ++ replicate count byte) }
+{
+    file.resize(file.len() + count as usize, byte)?;
+    Ok(())
+}
+
+/// Pushes section headers.
+fn push_sections(file: &mut Vec<u8>, sections: &[Shdr]) -> Result<(), NoMemory>
+    ensures { OnOk result (file.new.items ≡ file.old.items ++ flat_map shdr_bytes sections.now) }
+{
+    for section in sections {
+        file.extend_from_slice(&section_bytes(section))?;
+    }
+    Ok(())
+}
+
+/// The gap object of a kernel's kit: a relocatable object (gABI, `ET_REL`) whose sections `.text`, `.rodata`, `.data` and `.bss` are the
+/// gaps, each of the size that `gaps` gives in bytes. The bytes of `.text` are the instruction `int3`, those of `.rodata` and `.data` are
+/// zero. It defines no symbol. The only error is want of memory.
+pub fn gap_object(alloc: Global, gaps: &Gaps) -> Result<Vec<u8>, NoMemory>
+    requires { AreGaps gaps.now }
+    ensures file { IfOk result (λ b. b.items ≡ gap_file gaps.now) }
+{
+    let sections = sections(gaps);
+    let headers = sections[5].offset + NAMES.len() as u64;
+    let mut file = Vec::with_capacity(alloc, headers as usize + Shdr::SIZE * sections.len())?;
+    let head = relocatable_head(headers, SECTION_COUNT, NAMES_NUMBER);
+    file.extend_from_slice(&head_bytes(&head))?;
+    push_bytes(&mut file, gaps.text, INT3)?;
+    push_bytes(&mut file, gaps.rodata + gaps.rwdata, 0)?;
+    file.extend_from_slice(&NAMES)?;
+    push_sections(&mut file, &sections)?;
+    Ok(file)
+}

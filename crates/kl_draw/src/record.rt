@@ -1,0 +1,78 @@
+// Records of an ELF file as bytes.
+ghost use Rattle.std.specs.Prelude.{◌≡◌, length};
+ghost use Rattle.kl_draw.specs.GapFile.{relocatable_head};
+ghost use Rattle.kl_model.specs.Written.{ehdr_bytes, shdr_bytes};
+
+use kl_elf::abi::{EM_X86_64, ET_REL, EV_CURRENT, IDENT, SHT_NULL};
+use kl_elf::{Ehdr, Shdr};
+
+/// The section header that says nothing, with which the section headers of a file begin.
+pub const NULL_SECTION: Shdr = Shdr {
+    name: 0,
+    kind: SHT_NULL,
+    flags: 0,
+    addr: 0,
+    offset: 0,
+    size: 0,
+    link: 0,
+    info: 0,
+    addralign: 0,
+    entsize: 0,
+};
+
+/// The file header of a relocatable object (gABI, `ET_REL`) for x86-64: its section headers stand at `headers`, there are `count` of them,
+/// and that of number `names` is the string table of their names.
+pub fn relocatable_head(headers: u64, count: u16, names: u16) -> Ehdr
+    ensures { result ≡ relocatable_head headers count names }
+{
+    Ehdr {
+        ident: IDENT,
+        kind: ET_REL,
+        machine: EM_X86_64,
+        version: u32::from(EV_CURRENT),
+        entry: 0,
+        phoff: 0,
+        shoff: headers,
+        flags: 0,
+        ehsize: Ehdr::SIZE as u16,
+        phentsize: 0,
+        phnum: 0,
+        shentsize: Shdr::SIZE as u16,
+        shnum: count,
+        shstrndx: names,
+    }
+}
+
+/// Writes a file header over all bytes.
+fn put_head(bytes: &mut [u8], head: &Ehdr)
+    requires room { length bytes.old ≡ Ehdr.SIZE }
+    ensures { bytes.new ≡ ehdr_bytes head.now }
+{
+    head.write(bytes, 0);
+}
+
+/// The bytes of a file header.
+pub fn head_bytes(head: &Ehdr) -> [u8; Ehdr::SIZE]
+    ensures { result ≡ ehdr_bytes head.now }
+{
+    let mut bytes = [0; Ehdr::SIZE];
+    put_head(&mut bytes, head);
+    bytes
+}
+
+/// Writes a section header over all bytes.
+fn put_section(bytes: &mut [u8], section: &Shdr)
+    requires room { length bytes.old ≡ Shdr.SIZE }
+    ensures { bytes.new ≡ shdr_bytes section.now }
+{
+    section.write(bytes, 0);
+}
+
+/// The bytes of a section header.
+pub fn section_bytes(section: &Shdr) -> [u8; Shdr::SIZE]
+    ensures { result ≡ shdr_bytes section.now }
+{
+    let mut bytes = [0; Shdr::SIZE];
+    put_section(&mut bytes, section);
+    bytes
+}
