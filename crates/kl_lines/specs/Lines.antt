@@ -16,8 +16,8 @@ use Rattle.kl_lines.specs.Escaped.{escaped}
 -- WHAT WAS DONE: some words, and what is told of an image
 abbrev pub report_line : List ℕ → List ℕ → Report → List ℕ
 report_line first then r =
-    first ++ then ++ codes " pieces " ++ decimal r.pieces ++ codes " fields " ++ decimal r.fields ++ codes " bytes " ++ decimal r.bytes
-    ++ codes " sha256 " ++ encode_lower r.digest ++ codes "\n"
+    first ++ (then ++ (codes " pieces " ++ (decimal r.pieces ++ (codes " fields " ++ (decimal r.fields ++ (codes " bytes " ++ (decimal r.bytes
+    ++ (codes " sha256 " ++ (encode_lower r.digest ++ codes "\n")))))))))
 
 -- a kit was linked in its own folder
 abbrev pub link_line : List ℕ → Report → List ℕ
@@ -46,26 +46,34 @@ kit_fault_place (kit.Twice l) = l
 kit_fault_place (kit.Limit l) = l
 kit_fault_place (kit.Missing what) = 0
 
+abbrev pub kit_fault_line : KitFault → List ℕ
+kit_fault_line f = codes "relink: kit fault " ++ (decimal (kit_fault_number f) ++ (codes " line " ++ (decimal (kit_fault_place f) ++ codes "\n")))
+
 -- why a kit isn't read
 abbrev pub kit_line : KitCause → List ℕ
-kit_line (Text f) = codes "relink: kit fault " ++ decimal (kit_fault_number f) ++ codes " line " ++ decimal (kit_fault_place f) ++ codes "\n"
+kit_line (Text f) = kit_fault_line f
 kit_line (Absent name) = codes "relink: absent " ++ name ++ codes "\n"
 kit_line (TooLong name) = codes "relink: too long " ++ name ++ codes "\n"
 kit_line (Total what line) = codes "relink: over limit line " ++ decimal line ++ codes "\n"
 
 -- why an object isn't read, by its number and its line in the kit text
 abbrev pub object_line : ℕ → ℕ → List ℕ
-object_line input line = codes "relink: object " ++ decimal input ++ codes " line " ++ decimal line ++ codes "\n"
+object_line input line = codes "relink: object " ++ (decimal input ++ (codes " line " ++ (decimal line ++ codes "\n")))
 
 -- a fault of a link has its number, and the name of a symbol
+abbrev pub link_start : ℕ → List ℕ
+link_start number = codes "relink: link fault " ++ decimal number ++ codes " "
+
 abbrev pub named_line : ℕ → List ℕ → List ℕ
-named_line number name = codes "relink: link fault " ++ decimal number ++ codes " " ++ escaped name ++ codes "\n"
+named_line number name = link_start number ++ (escaped name ++ codes "\n")
 
 -- or a relocation entry, by its input, its section there and its number there
+abbrev pub entry_place : FieldAt → List ℕ
+entry_place from =
+    codes "input " ++ (decimal from.input ++ (codes " section " ++ (decimal from.section ++ (codes " entry " ++ (decimal from.index ++ codes "\n")))))
+
 abbrev pub entry_line : ℕ → FieldAt → List ℕ
-entry_line number from =
-    codes "relink: link fault " ++ decimal number ++ codes " input " ++ decimal from.input ++ codes " section " ++ decimal from.section
-    ++ codes " entry " ++ decimal from.index ++ codes "\n"
+entry_line number from = link_start number ++ entry_place from
 
 -- or the span of the image, in bytes, that passes the limit
 abbrev pub span_line : ℕ → List ℕ

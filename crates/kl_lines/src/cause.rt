@@ -1,12 +1,13 @@
 // Why a command ended.
-ghost use Rattle.std.specs.Prelude.{◌≡◌};
+ghost use Rattle.std.specs.Prelude.{◌≡◌, ◌++◌, codes, decimal};
 ghost use Rattle.kl_store.specs.Calls.{HasCause};
 ghost use Rattle.kl_store.specs.Outside.{Writes};
-ghost use Rattle.kl_lines.specs.Lines.{cause_line, entry_line, kit_fault_number, kit_fault_place, kit_line, link_fault_line, named_line, object_line, span_line};
+ghost use Rattle.kl_lines.specs.Lines.{cause_line, entry_line, entry_place, kit_fault_line, kit_fault_number, kit_fault_place, kit_line, link_fault_line, link_start, named_line, object_line, span_line};
 
 use crate::escaped::write_escaped;
 use crate::pieces::write_pieces;
 use itoa::Buffer;
+use kl_base::Name;
 use kl_jobs::{Cause, KitCause};
 use kl_kit::KitFault;
 use kl_model::{FieldAt, LinkFault};
@@ -73,30 +74,53 @@ fn write_kit<K: Sink>(out: &mut K, cause: &KitCause) -> Result<(), Failed>
     ensures writes { Writes (kit_line cause.now) (K.meaning out.old) (K.meaning out.new) result }
     ensures cause { HasCause (K.faults out.old) (K.faults out.new) result }
 {
+    match cause {
+        KitCause::Text(fault) => write_kit_fault(out, fault),
+        KitCause::Absent(name) => write_file(out, b"relink: absent ", name),
+        KitCause::TooLong(name) => write_file(out, b"relink: too long ", name),
+        KitCause::Total { line, .. } => write_total(out, *line),
+    }
+}
+
+/// Writes the first fault of a kit text.
+fn write_kit_fault<K: Sink>(out: &mut K, fault: &KitFault) -> Result<(), Failed>
+    ensures writes { Writes (kit_fault_line fault.now) (K.meaning out.old) (K.meaning out.new) result }
+    ensures cause { HasCause (K.faults out.old) (K.faults out.new) result }
+{
     let mut number = Buffer::new();
     let mut place = Buffer::new();
-    match cause {
-        KitCause::Text(fault) => write_pieces(
-            out,
-            &[
-                b"relink: kit fault ",
-                number.format(kit_fault_number(fault)).as_bytes(),
-                b" line ",
-                place.format(kit_fault_place(fault)).as_bytes(),
-                b"\n",
-            ],
-        ),
-        KitCause::Absent(name) => write_pieces(out, &[b"relink: absent ", name.bytes(), b"\n"]),
-        KitCause::TooLong(name) => write_pieces(out, &[b"relink: too long ", name.bytes(), b"\n"]),
-        KitCause::Total { line, .. } => write_pieces(
-            out,
-            &[
-                b"relink: over limit line ",
-                place.format(*line).as_bytes(),
-                b"\n",
-            ],
-        ),
-    }
+    let line: [&[u8]; 5] = [
+        b"relink: kit fault ",
+        number.format(kit_fault_number(fault)).as_bytes(),
+        b" line ",
+        place.format(kit_fault_place(fault)).as_bytes(),
+        b"\n",
+    ];
+    write_pieces(out, &line)
+}
+
+/// Writes some words and the name of a file.
+fn write_file<K: Sink>(out: &mut K, words: &[u8], name: &Name) -> Result<(), Failed>
+    ensures writes { Writes (words.now ++ name.now ++ codes "\n") (K.meaning out.old) (K.meaning out.new) result }
+    ensures cause { HasCause (K.faults out.old) (K.faults out.new) result }
+{
+    write_pieces(out, &[words, name.bytes(), b"\n"])
+}
+
+/// Writes the line of the input that takes a kit past a limit.
+fn write_total<K: Sink>(out: &mut K, line: u32) -> Result<(), Failed>
+    ensures writes { Writes (codes "relink: over limit line " ++ decimal line ++ codes "\n") (K.meaning out.old) (K.meaning out.new) result }
+    ensures cause { HasCause (K.faults out.old) (K.faults out.new) result }
+{
+    let mut place = Buffer::new();
+    write_pieces(
+        out,
+        &[
+            b"relink: over limit line ",
+            place.format(line).as_bytes(),
+            b"\n",
+        ],
+    )
 }
 
 /// Writes that an object isn't read, by its number and its line in the kit text.
@@ -154,9 +178,9 @@ fn write_span<K: Sink>(out: &mut K, found: u64) -> Result<(), Failed>
     )
 }
 
-/// Writes the number of a fault of a link and the name of a symbol.
-fn write_named<K: Sink>(out: &mut K, number: u32, name: &[u8]) -> Result<(), Failed>
-    ensures writes { Writes (named_line number name.now) (K.meaning out.old) (K.meaning out.new) result }
+/// Writes the number of a fault of a link, with which its line begins.
+fn write_start<K: Sink>(out: &mut K, number: u32) -> Result<(), Failed>
+    ensures writes { Writes (link_start number) (K.meaning out.old) (K.meaning out.new) result }
     ensures cause { HasCause (K.faults out.old) (K.faults out.new) result }
 {
     let mut digits = Buffer::new();
@@ -167,9 +191,37 @@ fn write_named<K: Sink>(out: &mut K, number: u32, name: &[u8]) -> Result<(), Fai
             digits.format(number).as_bytes(),
             b" ",
         ],
-    )?;
+    )
+}
+
+/// Writes the number of a fault of a link and the name of a symbol.
+fn write_named<K: Sink>(out: &mut K, number: u32, name: &[u8]) -> Result<(), Failed>
+    ensures writes { Writes (named_line number name.now) (K.meaning out.old) (K.meaning out.new) result }
+    ensures cause { HasCause (K.faults out.old) (K.faults out.new) result }
+{
+    write_start(out, number)?;
     write_escaped(out, name)?;
     out.write(b"\n")
+}
+
+/// Writes a relocation entry, by its input, its section there and its number there.
+fn write_place<K: Sink>(out: &mut K, from: &FieldAt) -> Result<(), Failed>
+    ensures writes { Writes (entry_place from.now) (K.meaning out.old) (K.meaning out.new) result }
+    ensures cause { HasCause (K.faults out.old) (K.faults out.new) result }
+{
+    let mut input = Buffer::new();
+    let mut section = Buffer::new();
+    let mut index = Buffer::new();
+    let place: [&[u8]; 7] = [
+        b"input ",
+        input.format(from.input).as_bytes(),
+        b" section ",
+        section.format(from.section).as_bytes(),
+        b" entry ",
+        index.format(from.index).as_bytes(),
+        b"\n",
+    ];
+    write_pieces(out, &place)
 }
 
 /// Writes the number of a fault of a link and a relocation entry.
@@ -177,22 +229,6 @@ fn write_entry<K: Sink>(out: &mut K, number: u32, from: &FieldAt) -> Result<(), 
     ensures writes { Writes (entry_line number from.now) (K.meaning out.old) (K.meaning out.new) result }
     ensures cause { HasCause (K.faults out.old) (K.faults out.new) result }
 {
-    let mut digits = Buffer::new();
-    let mut input = Buffer::new();
-    let mut section = Buffer::new();
-    let mut index = Buffer::new();
-    write_pieces(
-        out,
-        &[
-            b"relink: link fault ",
-            digits.format(number).as_bytes(),
-            b" input ",
-            input.format(from.input).as_bytes(),
-            b" section ",
-            section.format(from.section).as_bytes(),
-            b" entry ",
-            index.format(from.index).as_bytes(),
-            b"\n",
-        ],
-    )
+    write_start(out, number)?;
+    write_place(out, from)
 }
