@@ -62,6 +62,17 @@ abbrev pub IsAnswer : Option Request → Blocks → Blocks → Names → Cause �
 IsAnswer None b0 b1 m c = c ≡ Usage
 IsAnswer (Some r) b0 b1 m c = IsOutsideJob c ⊎ ((early m r.command ≡ Some c) ⊎ AnswersUnder r b0 b1 m c)
 
+-- all was done, and nothing stands under the seed that was used
+abbrev pub IsDoneAnswer : Option Request → Blocks → Blocks → Names → Type 0
+IsDoneAnswer None b0 b1 m = ⊥
+IsDoneAnswer (Some r) b0 b1 m = EndsUnder r.seed b0 b1 (early m r.command) (late m r.command) None
+
+-- a refusal
+abbrev pub IsNoDone : Cause → Type 0
+IsNoDone Done = ⊥
+IsNoDone Sink = ⊥
+IsNoDone _ = Unit {0}
+
 -- where the store tells its names, that is so of the names at the start
 abbrev pub Answers : List (List ℕ) → Blocks → Blocks → Meaning → Cause → Type 0
 Answers words b0 b1 before c = ForSome before.names (λ m. IsAnswer (request_of words) b0 b1 m c)

@@ -1,7 +1,7 @@
 -- The words of the command line.
 use Rattle.std.specs.Prelude.{ℕ, ◌≤◌, Bool, cond, if◌then◌else◌, ◌&&◌, nat_le, List, [], ◌∷◌, length, codes, is_none, Option, Some, None, Result, Ok, Err}
 use Rattle.std.specs.Str.{bytes_eq}
-use Rattle.std.specs.Option.{option_and_then, option_map}
+use Rattle.std.specs.Option.{option_and_then, option_map, option_or}
 use Rattle.hex.specs.Hex.{decode_sized}
 use Rattle.hex.specs.declared.error.FromHexError.{FromHexError}
 use Rattle.kl_base.specs.Names.{name_fault}
@@ -32,11 +32,22 @@ unseeded word operand = option_map (λ c. record { command = c; seed = None }) (
 abbrev pub seeded : List ℕ → List ℕ → List ℕ → Option Request
 seeded word operand digits = option_and_then (λ c. option_map (λ s. record { command = c; seed = Some s }) (seed_of digits)) (command_of word operand)
 
+-- with two more words behind them: `--seed HEX`
+abbrev pub flagged : List ℕ → List ℕ → List ℕ → List ℕ → Option Request
+flagged word operand flag digits = if bytes_eq flag (codes "--seed") then seeded word operand digits else None
+
+-- two words are a command, or four of which the last two give a seed
+abbrev pub two_words : List (List ℕ) → Option Request
+two_words (word ∷ operand ∷ []) = unseeded word operand
+two_words _ = None
+
+abbrev pub four_words : List (List ℕ) → Option Request
+four_words (word ∷ operand ∷ flag ∷ digits ∷ []) = flagged word operand flag digits
+four_words _ = None
+
 -- WHAT THE WORDS ASK FOR, if they are a command, with `--seed HEX` behind it or without
 abbrev pub request_of : List (List ℕ) → Option Request
-request_of (word ∷ operand ∷ []) = unseeded word operand
-request_of (word ∷ operand ∷ flag ∷ digits ∷ []) = if bytes_eq flag (codes "--seed") then seeded word operand digits else None
-request_of _ = None
+request_of words = option_or (two_words words) (four_words words)
 
 -- what a command's words had
 abbrev pub IsCommand : Command → Type 0

@@ -1,6 +1,7 @@
 // The words of the command line.
 ghost use Rattle.std.specs.Prelude.{◌≡◌, IfSome};
-ghost use Rattle.kl_cli.specs.Commands.{IsCommand, command_of, seed_of, seeded, unseeded};
+ghost use Rattle.kl_cli.specs.Commands.{IsCommand, command_of, flagged, four_words, seed_of, seeded, two_words, unseeded};
+ghost use Rattle.kl_cli.specs.Answers.{texts};
 
 use kl_base::{FILE_LIMIT, Name};
 
@@ -29,14 +30,44 @@ impl Request {
         ensures words { result ≡ request_of (texts words.now) }
         ensures command { IfSome result (λ r. IsCommand r.command) }
     {
-        match words {
-            [word, operand] => unseeded(word, operand),
-            [word, operand, flag, digits] if flag.as_slice() == b"--seed".as_slice() => {
-                seeded(word, operand, digits)
-            }
-            _ => None,
+        match two_words(words) {
+            Some(request) => Some(request),
+            None => four_words(words),
         }
     }
+}
+
+/// What two words ask for.
+fn two_words(words: &[Vec<u8>]) -> Option<Request>
+    ensures words { result ≡ two_words (texts words.now) }
+    ensures command { IfSome result (λ r. IsCommand r.command) }
+{
+    if words.len() != 2 {
+        return None;
+    }
+    unseeded(&words[0], &words[1])
+}
+
+/// What four words ask for.
+fn four_words(words: &[Vec<u8>]) -> Option<Request>
+    ensures words { result ≡ four_words (texts words.now) }
+    ensures command { IfSome result (λ r. IsCommand r.command) }
+{
+    if words.len() != 4 {
+        return None;
+    }
+    flagged(&words[0], &words[1], &words[2], &words[3])
+}
+
+/// What words ask for with two more behind them.
+fn flagged(word: &[u8], operand: &[u8], flag: &[u8], digits: &[u8]) -> Option<Request>
+    ensures words { result ≡ flagged word.now operand.now flag.now digits.now }
+    ensures command { IfSome result (λ r. IsCommand r.command) }
+{
+    if flag != b"--seed".as_slice() {
+        return None;
+    }
+    seeded(word, operand, digits)
 }
 
 /// What words without a seed ask for.

@@ -8,7 +8,7 @@ ghost use Rattle.kl_store.specs.Outside.{Writes};
 ghost use Rattle.kl_jobs.specs.Refusals.{EndsUnder, IsJobRefusal, RefusesJob};
 ghost use Rattle.kl_jobs.specs.Seeds.{Draws, NoneDrawn};
 ghost use Rattle.kl_cli.specs.Commands.{IsCommand, request_of};
-ghost use Rattle.kl_cli.specs.Answers.{Answers, IsDone, MayChange, Says, cause_of, early, given_seed, late, lines_of, status_of, texts};
+ghost use Rattle.kl_cli.specs.Answers.{Answers, IsDone, IsDoneAnswer, IsNoDone, MayChange, Says, cause_of, early, given_seed, late, lines_of, status_of, texts};
 ghost use Rattle.kl_cli.specs.Done.{Does, Finishes};
 ghost use Rattle.kl_cli.specs.declared.outcome.Outcome.{Outcome};
 
@@ -54,12 +54,36 @@ pub fn run<S: Store, E: Entropy, K: Sink>(
     ensures says { Says (request_of (texts words.now)) (E.meaning entropy.old) (E.meaning entropy.new) (S.meaning store.old) (S.meaning store.new)
         result.cause (K.meaning out.old) (K.meaning out.new) (K.faults out.old) (K.faults out.new) }
 {
-    let ended = match Request::of_words(words) {
-        Some(request) => execute(alloc, &request, store, entropy),
-        None => Err(Cause::Usage),
-    };
+    let ended = answer(alloc, words, store, entropy);
     let told = tell(out, &ended);
     Exit::of(cause_of(ended, told.is_ok()))
+}
+
+/// Does what the words ask for. Nothing is written to the sink yet.
+fn answer<S: Store, E: Entropy>(
+    alloc: Global,
+    words: &[Vec<u8>],
+    store: &mut S,
+    entropy: &mut E,
+) -> Result<Outcome, Cause>
+    ensures usage { IsErrOf result Cause.Usage ↔ (request_of (texts words.now) ≡ None) }
+    ensures done { IfOk result (Finishes (request_of (texts words.now)) (E.meaning entropy.old) (E.meaning entropy.new) (S.meaning store.old) (S.meaning store.new)) }
+    ensures stands { OnOk result (ForSome (S.meaning store.old).names
+        (λ m. IsDoneAnswer (request_of (texts words.now)) (E.meaning entropy.old) (E.meaning entropy.new) m)) }
+    ensures refused { IfErr result (Answers (texts words.now) (E.meaning entropy.old) (E.meaning entropy.new) (S.meaning store.old)) }
+    ensures refusal { IfErr result IsNoDone }
+    ensures failed { IsErrOf result Cause.Store → Rose (S.faults store.old) (S.faults store.new) }
+    ensures draws { Draws (given_seed (request_of (texts words.now))) (E.meaning entropy.old) (E.meaning entropy.new) }
+    ensures undrawn { IsErrOf result Cause.Entropy → NoneDrawn (given_seed (request_of (texts words.now))) (E.meaning entropy.old) (E.meaning entropy.new) }
+    ensures entropy { IsErrOf result Cause.Entropy → Rose (E.faults entropy.old) (E.faults entropy.new) }
+    ensures untouched { IfErr result (λ c. (c ≡ Cause.Store) ⊎ Stays (S.meaning store.old) (S.meaning store.new)) }
+    ensures images { LeavesOfDisk (S.meaning store.old) (S.meaning store.new) HasFiles }
+    ensures files { SameFiles (S.meaning store.old) (S.meaning store.new) }
+{
+    match Request::of_words(words) {
+        Some(request) => execute(alloc, &request, store, entropy),
+        None => Err(Cause::Usage),
+    }
 }
 
 /// The cause that is answered of how a command ended, by whether the sink took its lines: a sink that fails changes nothing of a refusal.

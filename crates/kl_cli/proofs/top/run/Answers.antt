@@ -1,16 +1,19 @@
-use Rattle.std.proofs.Common.{◌≡◌, ◌∙◌, sym}
-use Rattle.std.specs.Prelude.{Option, Some}
-use Rattle.kl_store.specs.Meaning.{Meaning}
-use Rattle.kl_cli.specs.Done.{Finishes}
-use Rattle.kl_cli.specs.declared.command.Command.{Command}
-use Rattle.kl_cli.proofs.Said.{says_nothing}
+use Rattle.std.proofs.Common.{◌≡◌, ◌∙◌, ap, rules}
+use Rattle.std.specs.Prelude.{is_ok}
+use Rattle.kl_cli.specs.Answers.{cause_of, texts}
+use Rattle.kl_cli.proofs.Said.{answers, done_ends, says}
 use Rattle.kl_cli.proofs.top.run.Goals as goal
 
-pub returns-clause-says : goal.returns-clause-says
-returns-clause-says g c = rw c.of-2.ensures.cause (says_nothing c.execute.result (g.K.Sink.meaning c.args.out.now) (g.K.Sink.faults c.args.out.now) c.execute.ensures.usage)
-
-finishes_by : (o : Option Command) (command : Command) (a b : Meaning) → o ≡ Some command → Finishes (Some command) a b → Finishes o a b
-finishes_by o command a b is p = rw is p
+pub returns-clause-answer : goal.returns-clause-answer
+returns-clause-answer g c =
+    rw (c.of.ensures.cause, c.cause_of.ensures)
+    (answers (texts c.args.words.now) (g.E.Entropy.meaning c.args.entropy.now) (g.E.Entropy.meaning c.answer-ended.new.entropy) (g.S.Store.meaning c.args.store.now) c.answer-ended.result c.is_ok.result c.answer-ended.ensures.stands c.answer-ended.ensures.refused)
 
 pub returns-clause-done : goal.returns-clause-done
-returns-clause-done g c = λ done. finishes_by _ c.in-Some.command (g.S.Store.meaning c.args.store.now) (g.S.Store.meaning c.execute.new.store) (sym c.in-Some.ensures.words) (c.execute.ensures.done (sym c.of-2.ensures.cause ∙ done))
+returns-clause-done g c = λ done. done_ends c.answer-ended.result c.is_ok.result c.answer-ended.ensures.done c.answer-ended.ensures.refusal (rw (c.of.ensures.cause, c.cause_of.ensures) at done)
+
+pub returns-clause-says : goal.returns-clause-says
+returns-clause-says g c =
+    let told : c.is_ok.result ≡ is_ok c.tell-told.result = search rules in
+    rw (c.of.ensures.cause ∙ c.cause_of.ensures ∙ ap (cause_of c.answer-ended.result) told)
+    (says _ _ _ _ _ c.answer-ended.result _ _ c.tell-told.result c.answer-ended.ensures.done c.answer-ended.ensures.refusal c.tell-told.ensures.writes c.tell-told.ensures.cause)
