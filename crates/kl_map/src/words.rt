@@ -41,9 +41,9 @@ fn eight_bytes(word: &[u8]) -> Option<[u8; 8]>
     if hex::decode_to_slice(word, &mut bytes).is_err() {
         return None;
     }
-    let mut digits = [0; 16];
-    hex::encode_to_slice(&bytes, &mut digits).unwrap();
-    if digits.as_slice() == word {
+    let mut spelling = [0; 16];
+    hex::encode_to_slice(&bytes, &mut spelling).unwrap();
+    if spelling.as_slice() == word {
         Some(bytes)
     } else {
         None
