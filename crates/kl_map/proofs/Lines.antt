@@ -15,8 +15,8 @@ use Rattle.kl_model.specs.Lists.{each, each_from}
 use Rattle.kl_text.specs.Lines.{words_line}
 use Rattle.kl_text.proofs.Cuts.{same_cut}
 use Rattle.kl_map.specs.declared.map.Map.{Map}
-use Rattle.kl_map.specs.MapText.{area_line, area_name, class_name, hexadecimal, id_words, output_line, seed_line, base_line, map_text, placed_line}
-use Rattle.kl_map.specs.Spelling.{AreaFits, IdFits, OneSpelling, PlacedFits}
+use Rattle.kl_map.specs.MapText.{area_line, head_lines, area_name, class_name, hexadecimal, id_words, output_line, seed_line, base_line, map_text, placed_line}
+use Rattle.kl_map.specs.Spelling.{AreaFits, IdFits, IsMap, OneSpelling, PlacedFits}
 use Rattle.kl_map.proofs.Texts.{name_lacks, same_address, same_digits, same_number}
 
 abbrev area_of : ℕ → ℕ → AreaAt
@@ -68,7 +68,7 @@ same_class c d a b e =
     (same, append_cancel_left (class_name c) a b (e ∙ ap (λ (k : Class). class_name k ++ b) (sym same)))
 
 -- the line of an id with what follows it
-abbrev id_then : PieceId → List ℕ → List ℕ
+abbrev pub id_then : PieceId → List ℕ → List ℕ
 id_then (Section input section) a = codes "piece " ++ (decimal input ++ 32 ∷ (decimal section ++ 32 ∷ a))
 id_then (Common number) a = codes "common " ++ (decimal number ++ 32 ∷ a)
 id_then (Gap class) a = codes "gap " ++ (class_name class ++ 32 ∷ a)
@@ -84,7 +84,7 @@ id_line-append (Common number) address size a = simp append_assoc
 id_line-append (Gap class) address size a = simp append_assoc
 
 -- the first letter of an id's line
-abbrev id_letter : PieceId → ℕ
+abbrev pub id_letter : PieceId → ℕ
 id_letter (Section input section) = 112
 id_letter (Common number) = 99
 id_letter (Gap class) = 103
@@ -128,15 +128,15 @@ same_placed x y a b fits suits e =
     let sizes = same_address x.size y.size _ _ fits.2 suits.2 (append_cancel_left (codes " ") _ _ addresses.1) in
     (placed_eq x y ids.0 addresses.0 sizes.0, append_cancel_left (codes "\n") a b sizes.1)
 
-abbrev last_line : List ℕ
+abbrev pub last_line : List ℕ
 last_line = codes "end\n"
 
 -- the first letter of a line of the pieces isn't that of an area or of the end
-first_placed : (x : Placed) (a : List ℕ) → get_or (placed_line x ++ a) 0 0 ≡ id_letter x.id
+pub first_placed : (x : Placed) (a : List ℕ) → get_or (placed_line x ++ a) 0 0 ≡ id_letter x.id
 unfolding placed_line
 first_placed x a = ap (λ (t : List ℕ). get_or t 0 0) (id_line-append x.id x.address x.size a) ∙ first_id x.id _
 
-letter_above : (id : PieceId) → (97 < id_letter id) × (id_letter id ≢ 101)
+pub letter_above : (id : PieceId) → (97 < id_letter id) × (id_letter id ≢ 101)
 letter_above (Section input section) = (omega arith, λ e. omega (arith, e))
 letter_above (Common number) = (omega arith, λ e. omega (arith, e))
 letter_above (Gap class) = (omega arith, λ e. omega (arith, e))
@@ -162,7 +162,7 @@ same_pieces (x ∷ xs) (y ∷ ys) fits suits e =
     let h = first.0 in cc
 
 -- the lines from the pieces on begin with no area
-pieces_letter : (xs : List Placed) → 97 < get_or (flat_map placed_line xs ++ last_line) 0 0
+pub pieces_letter : (xs : List Placed) → 97 < get_or (flat_map placed_line xs ++ last_line) 0 0
 pieces_letter [] = omega arith
 pieces_letter (x ∷ xs) =
     let letter = ap (λ (t : List ℕ). get_or t 0 0) (append_assoc (placed_line x) (flat_map placed_line xs) last_line) ∙ first_placed x _ in
@@ -200,11 +200,11 @@ seven_parts : (a b c d e f g : List ℕ) → a ++ b ++ c ++ d ++ e ++ f ++ g ≡
 seven_parts a b c d e f g = simp append_assoc
 
 -- the lines from the areas on
-abbrev tail_lines : Placement → List ℕ
+abbrev pub tail_lines : Placement → List ℕ
 tail_lines p = each p.areas area_line ++ (flat_map placed_line p.pieces ++ last_line)
 
 -- the first line, and then each part with what follows it
-map_text-parts : (m : Map) → map_text m ≡ words_line (codes "relink" ∷ codes "map" ∷ codes "1" ∷ [])
+pub map_text-parts : (m : Map) → map_text m ≡ words_line (codes "relink" ∷ codes "map" ∷ codes "1" ∷ [])
     ++ (output_line m.output ++ (seed_line m.seed ++ (base_line m.placement.base ++ tail_lines m.placement)))
 unfolding map_text
 map_text-parts m = seven_parts (words_line (codes "relink" ∷ codes "map" ∷ codes "1" ∷ [])) (output_line m.output) (seed_line m.seed)
@@ -225,6 +225,24 @@ map_eq : (x y : Map) → x.output ≡ y.output → x.seed ≡ y.seed → x.place
 map_eq x y o s p =
     ap (λ (l : List ℕ). map_of l x.seed x.placement) o ∙ ap (λ (l : List ℕ). map_of y.output l x.placement) s
     ∙ ap (map_of y.output y.seed) p
+
+four_parts : (a b c d e : List ℕ) → a ++ b ++ c ++ d ++ e ≡ a ++ (b ++ (c ++ (d ++ e)))
+four_parts a b c d e = simp append_assoc
+
+-- what follows the lines before the areas
+pub same_head : (x y : Map) (a b : List ℕ) → IsMap x → IsMap y → head_lines x ++ a ≡ head_lines y ++ b → a ≡ b
+same_head x y a b fits suits e =
+    let first = words_line (codes "relink" ∷ codes "map" ∷ codes "1" ∷ []) in
+    let whole = sym (four_parts first (output_line x.output) (seed_line x.seed) (base_line x.placement.base) a) ∙ e
+    ∙ four_parts first (output_line y.output) (seed_line y.seed) (base_line y.placement.base) b in
+    let read = append_cancel_left (codes "relink map 1\n") _ _ whole in
+    let outputs = same_cut 10 x.output y.output _ _ (name_lacks x.output fits.output) (name_lacks y.output suits.output)
+    (same_word (codes "output") x.output y.output _ _ read) in
+    let long : length x.seed ≡ length y.seed = fits.seed_length ∙ sym suits.seed_length in
+    let seeds = same_digits x.seed y.seed _ _ fits.seed suits.seed long (same_word (codes "seed") _ _ _ _ outputs.1) in
+    let bases = same_address x.placement.base y.placement.base _ _ fits.base suits.base
+    (same_word (codes "base") _ _ _ _ (append_cancel_left (codes "\n") _ _ seeds.1)) in
+    append_cancel_left (codes "\n") a b bases.1
 
 -- no two maps have one text
 pub one_spelling : OneSpelling

@@ -30,16 +30,16 @@ same_front (x ∷ xs) (y ∷ ys) a b n e =
     let whole : x ∷ xs ≡ y ∷ ys = cc in
     (whole, rest.1)
 
--- a decimal number has no space
-digits_lack : (ds : List ℕ) → AllDigits 10 ds → lacks 32 ds ≡ true
-digits_lack [] digits = refl
-digits_lack (d ∷ ds) digits =
+-- a decimal number has digits alone
+digits_lack : (value : ℕ) (ds : List ℕ) → value < 48 → AllDigits 10 ds → lacks value ds ≡ true
+digits_lack value [] low digits = refl
+digits_lack value (d ∷ ds) low digits =
     let range = digit_at (d ∷ ds) 0 digits (omega arith) in
-    let other : (d == 32) ≡ false = ne_eqb d 32 (λ e. omega (arith, range.0, e)) in
-    rw (other, digits_lack ds digits.1) refl
+    let other : (d == value) ≡ false = ne_eqb d value (λ e. omega (arith, range.0, e)) in
+    rw (other, digits_lack value ds low digits.1) refl
 
-decimal_lacks : (n : ℕ) → n < 2 ^ 64 → lacks 32 (decimal n) ≡ true
-decimal_lacks n fits = digits_lack (decimal n) (decimal_is_IsNumeral n fits).0.1
+pub decimal_lacks : (value n : ℕ) → value < 48 → n < 2 ^ 64 → lacks value (decimal n) ≡ true
+decimal_lacks value n low fits = digits_lack value (decimal n) low (decimal_is_IsNumeral n fits).0.1
 
 -- a number before a space
 pub same_number : (m n : ℕ) (a b : List ℕ) → m < 2 ^ 32 → n < 2 ^ 32
@@ -47,7 +47,7 @@ pub same_number : (m n : ℕ) (a b : List ℕ) → m < 2 ^ 32 → n < 2 ^ 32
 same_number m n a b small little e =
     let fits : m < 2 ^ 64 = omega arith in
     let suits : n < 2 ^ 64 = omega arith in
-    let parts = same_cut 32 (decimal m) (decimal n) a b (decimal_lacks m fits) (decimal_lacks n suits) e in
+    let parts = same_cut 32 (decimal m) (decimal n) a b (decimal_lacks 32 m (omega arith) fits) (decimal_lacks 32 n (omega arith) suits) e in
     (decimal_injective m n fits suits parts.0, parts.1)
 
 byte_fits : (k n : ℕ) → byte_at k n < 256
@@ -55,7 +55,7 @@ byte_fits zero n = omega arith
 byte_fits (suc k) n = omega arith
 
 -- the bytes of a number are bytes
-bytes_fit : (k n : ℕ) → IsBytes (bytes_high_first k n)
+pub bytes_fit : (k n : ℕ) → IsBytes (bytes_high_first k n)
 bytes_fit zero n i = omega arith
 bytes_fit (suc k) n zero = byte_fits k n
 bytes_fit (suc k) n (suc i) = bytes_fit k n i

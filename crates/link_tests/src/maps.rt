@@ -1,5 +1,5 @@
 use kl_base::{Class, Name};
-use kl_map::{Map, print_map};
+use kl_map::{MAP_LIMIT, Map, MapError, print_map, read_map};
 use kl_model::{AreaAt, Areas, PieceId, Placed, PlacedList, Placement};
 use std::alloc::Global;
 use std::test::Fail;
@@ -116,9 +116,7 @@ gap bss 0x0000000000003000 0x0000000000040000
 end
 ";
 
-#[test]
-fn prints_a_run_a_common_and_gaps(rt: HostRuntime) -> Result<(), Fail> {
-    let alloc = rt.alloc();
+fn run_common_and_gaps(alloc: Global) -> Result<Map, Fail> {
     let mut areas = [empty_at(0x1000); 26];
     areas[15] = area(0x2000, 0x2028);
     areas[25] = area(0xfedc_ba98_7654_3210, 0);
@@ -136,14 +134,153 @@ fn prints_a_run_a_common_and_gaps(rt: HostRuntime) -> Result<(), Fail> {
     ];
     let mut seed = [0xab; 32];
     seed[0] = 0x01;
-    let map = Map {
+    Ok(Map {
         output: Name::from_bytes(b"/usr/lib/libc.so.97.0")?,
         seed,
         placement: placement(alloc, 0, &areas, &pieces)?,
-    };
+    })
+}
+
+#[test]
+fn prints_a_run_a_common_and_gaps(rt: HostRuntime) -> Result<(), Fail> {
+    let alloc = rt.alloc();
+    let map = run_common_and_gaps(alloc)?;
     assert_eq!(rt;
         print_map(alloc, &map)?.as_slice(),
         RUN_COMMON_AND_GAPS.as_bytes()
     );
+    Ok(())
+}
+
+fn read(alloc: Global, text: &[u8]) -> Result<Map, MapError> {
+    if text.len() > MAP_LIMIT {
+        return Err(MapError::NoMemory);
+    }
+    read_map(alloc, text)
+}
+
+#[test]
+fn reads_a_run_a_common_and_gaps(rt: HostRuntime) -> Result<(), Fail> {
+    let alloc = rt.alloc();
+    let map = run_common_and_gaps(alloc)?;
+    let back = read(alloc, RUN_COMMON_AND_GAPS.as_bytes())?;
+    assert_eq!(rt; back.output, map.output);
+    assert_eq!(rt; back.seed, map.seed);
+    assert_eq!(rt; back.placement.base, map.placement.base);
+    assert_eq!(rt; back.placement.areas.items(), map.placement.areas.items());
+    assert_eq!(rt; back.placement.pieces.items(), map.placement.pieces.items());
+    Ok(())
+}
+
+/// The line that is told of a text, or 0.
+fn faulty_line(alloc: Global, text: &[u8]) -> u32 {
+    match read(alloc, text) {
+        Err(MapError::Line { line }) => line,
+        _ => 0,
+    }
+}
+
+const HEAD: &str = "\
+relink map 1
+output /bsd
+seed 0000000000000000000000000000000000000000000000000000000000000000
+base 0xffffffff81000000
+";
+
+const UPPER_CASE: &str = "\
+relink map 1
+output /bsd
+seed 0000000000000000000000000000000000000000000000000000000000000000
+base 0xffffffff81000000
+area text 0xffffffff81000000 0xFfffffff81000003
+";
+
+#[test]
+fn tells_an_upper_case_digit(rt: HostRuntime) -> Result<(), Fail> {
+    let alloc = rt.alloc();
+    assert_eq!(rt; faulty_line(alloc, UPPER_CASE.as_bytes()), 5);
+    assert_eq!(rt; faulty_line(alloc, HEAD.as_bytes()), 5);
+    assert_eq!(rt; faulty_line(alloc, b"relink map 1"), 1);
+    assert_eq!(rt; faulty_line(alloc, b"relink map 1\n\n"), 2);
+    Ok(())
+}
+
+const AREAS: &str = "\
+area text 0x0000000000001000 0x0000000000001000
+area rodata 0x0000000000001000 0x0000000000001000
+area data 0x0000000000001000 0x0000000000001000
+area bss 0x0000000000001000 0x0000000000001000
+area init 0x0000000000001000 0x0000000000001000
+area fini 0x0000000000001000 0x0000000000001000
+area stubs 0x0000000000001000 0x0000000000001000
+area eh_frame 0x0000000000001000 0x0000000000001000
+area tables 0x0000000000001000 0x0000000000001000
+area ctors 0x0000000000001000 0x0000000000001000
+area dtors 0x0000000000001000 0x0000000000001000
+area init_array 0x0000000000001000 0x0000000000001000
+area fini_array 0x0000000000001000 0x0000000000001000
+area got 0x0000000000001000 0x0000000000001000
+area dynamic 0x0000000000001000 0x0000000000001000
+";
+
+/// The line that is told where these lines follow 19 good ones.
+fn line_behind(alloc: Global, lines: &str) -> Result<u32, Fail> {
+    let text = format!(in alloc; "{HEAD}{AREAS}{lines}")?;
+    Ok(faulty_line(alloc, text.as_bytes()))
+}
+
+const TWICE_ENDED: &str = "\
+piece 0 1 0x0000000000001000 0x0000000000000003
+end
+end
+";
+
+const UNENDED: &str = "\
+piece 0 1 0x0000000000001000 0x0000000000000003
+";
+
+const FALLING_PIECES: &str = "\
+piece 1 2 0x0000000000001000 0x0000000000000003
+piece 1 1 0x0000000000001000 0x0000000000000003
+end
+";
+
+const SECOND_COMMON: &str = "\
+common 1 0x0000000000001000 0x0000000000000003
+end
+";
+
+const LEADING_ZERO: &str = "\
+piece 0 01 0x0000000000001000 0x0000000000000003
+end
+";
+
+const SWAPPED_GAPS: &str = "\
+gap text 0x0000000000001000 0x0000000000000000
+gap data 0x0000000000001000 0x0000000000000000
+gap rodata 0x0000000000001000 0x0000000000000000
+gap bss 0x0000000000001000 0x0000000000000000
+end
+";
+
+const THREE_GAPS: &str = "\
+gap text 0x0000000000001000 0x0000000000000000
+gap rodata 0x0000000000001000 0x0000000000000000
+gap data 0x0000000000001000 0x0000000000000000
+end
+";
+
+#[test]
+fn tells_lines_out_of_order(rt: HostRuntime) -> Result<(), Fail> {
+    let alloc = rt.alloc();
+    assert_eq!(rt; line_behind(alloc, "end\n")?, 0);
+    assert_eq!(rt; line_behind(alloc, "end")?, 20);
+    assert_eq!(rt; line_behind(alloc, TWICE_ENDED)?, 22);
+    assert_eq!(rt; line_behind(alloc, UNENDED)?, 21);
+    assert_eq!(rt; line_behind(alloc, FALLING_PIECES)?, 21);
+    assert_eq!(rt; line_behind(alloc, SECOND_COMMON)?, 20);
+    assert_eq!(rt; line_behind(alloc, LEADING_ZERO)?, 20);
+    assert_eq!(rt; line_behind(alloc, SWAPPED_GAPS)?, 21);
+    assert_eq!(rt; line_behind(alloc, THREE_GAPS)?, 23);
     Ok(())
 }
