@@ -1,1 +1,2 @@
 pub mod GapRead
+pub mod RecordBytes

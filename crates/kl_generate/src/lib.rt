@@ -2,5 +2,8 @@
 #![tactic(auto)]
 
 mod gap_law;
+mod object;
+mod record;
 
 pub use gap_law::gap_objects;
+pub use object::{COUNT_LIMIT, made_object};
