@@ -1,2 +1,3 @@
 pub mod GapRead
+pub mod Made
 pub mod MadeFile

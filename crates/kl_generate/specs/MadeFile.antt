@@ -1,20 +1,12 @@
--- The objects of a kit that is made to be linked, each as a file and as what is read from it (gABI, "Object Files").
-use Rattle.std.specs.Prelude.{ℕ, ◌+◌, ◌-◌, ◌*◌, ◌/◌, ◌%◌, ◌^◌, ◌<◌, ◌≤◌, ◌≡◌, pos, negsuc, List, [], ◌∷◌, ◌++◌, length, map, flat_map, replicate, codes, decimal, None}
-use Rattle.kl_base.specs.declared.class.Range.{Range}
-use Rattle.kl_elf.specs.declared.records.Ehdr.{Ehdr}
+-- The objects of a kit that is made to be linked, each as a file (gABI, "Object Files").
+use Rattle.std.specs.Prelude.{ℕ, ◌+◌, ◌-◌, ◌*◌, ◌^◌, pos, negsuc, List, [], ◌∷◌, ◌++◌, length, flat_map, replicate, codes}
 use Rattle.kl_elf.specs.declared.records.Shdr.{Shdr}
 use Rattle.kl_elf.specs.declared.records.Sym.{Sym}
 use Rattle.kl_elf.specs.declared.records.Rela.{Rela}
-use Rattle.kl_model.specs.Kept.{no_symbol}
-use Rattle.kl_model.specs.Texts.{text_at}
 use Rattle.kl_model.specs.Written.{ehdr_bytes, shdr_bytes, sym_bytes, rela_bytes}
-use Rattle.kl_model.specs.declared.object.Object.{Object}
-use Rattle.kl_model.specs.declared.object.Section.{Section}
-use Rattle.kl_model.specs.declared.object.Symbol.{Symbol}
-use Rattle.kl_model.specs.declared.object.RawField.{RawField}
-use Rattle.kl_rel.specs.Objects.{flaw, object}
 use Rattle.kl_draw.specs.GapFile.{null_section, relocatable_head}
-use Rattle.kl_elf.specs.declared.abi.TheConstants.{R_X86_64_64, R_X86_64_PLT32, SHF_ALLOC, SHF_EXECINSTR, SHF_INFO_LINK, SHF_WRITE, SHN_UNDEF, SHT_PROGBITS, SHT_RELA, SHT_STRTAB, SHT_SYMTAB, STB_GLOBAL, STB_LOCAL, STT_FUNC, STT_NOTYPE, STV_DEFAULT}
+use Rattle.kl_generate.specs.Made.{callee, made_name, text_size}
+use Rattle.kl_elf.specs.declared.abi.TheConstants.{R_X86_64_64, R_X86_64_PLT32, SHF_ALLOC, SHF_EXECINSTR, SHF_INFO_LINK, SHF_WRITE, SHN_UNDEF, SHT_PROGBITS, SHT_RELA, SHT_STRTAB, SHT_SYMTAB, STB_GLOBAL, STT_FUNC, STT_NOTYPE, STV_DEFAULT}
 use Rattle.kl_elf.specs.declared.records.TheConstants.Ehdr as ehdr
 use Rattle.kl_elf.specs.declared.records.TheConstants.Rela as rela
 use Rattle.kl_elf.specs.declared.records.TheConstants.Shdr as shdr
@@ -22,11 +14,7 @@ use Rattle.kl_elf.specs.declared.records.TheConstants.Sym as sym
 use Rattle.kl_model.specs.declared.area.TheConstants as area
 use Rattle.kl_generate.specs.declared.object.TheConstants as made
 
--- the size of the text of object k, in bytes: 16, 32, 48 or 64
-abbrev pub text_size : ℕ → ℕ
-text_size k = 16 * (1 + k % 4)
-
--- its text: a call whose distance is a field, no operations, and a return
+-- the text of object k: a call whose distance is a field, no operations, and a return
 abbrev pub text : ℕ → List ℕ
 text k = made.CALL ∷ replicate 4 0 ++ (replicate (text_size k - 6) area.NOP ++ made.RETURN ∷ [])
 
@@ -34,17 +22,9 @@ text k = made.CALL ∷ replicate 4 0 ++ (replicate (text_size k - 6) area.NOP ++
 abbrev pub data_size : ℕ
 data_size = 8
 
--- the object that it calls, of n
-abbrev pub callee : ℕ → ℕ → ℕ
-callee n k = (7 * k + 1) % n
-
--- the name of the function that object k defines
-abbrev pub function_name : ℕ → List ℕ
-function_name k = codes "f" ++ decimal k
-
 -- the names of its symbols, each ended by a zero byte
 abbrev pub strings : ℕ → ℕ → List ℕ
-strings n k = 0 ∷ (function_name k ++ (0 ∷ (function_name (callee n k) ++ 0 ∷ [])))
+strings n k = 0 ∷ (made_name k ++ (0 ∷ (made_name (callee n k) ++ 0 ∷ [])))
 
 -- the names of its sections, each ended by a zero byte, and zero bytes up to 64
 abbrev pub section_names : List ℕ
@@ -125,7 +105,7 @@ abbrev pub undefined_symbol : ℕ → Sym
 undefined_symbol name = record { name = name; info = STB_GLOBAL * 16 + STT_NOTYPE; other = STV_DEFAULT; shndx = SHN_UNDEF; value = 0; size = 0 }
 
 abbrev pub callee_name : ℕ → ℕ
-callee_name k = 2 + length (function_name k)
+callee_name k = 2 + length (made_name k)
 
 abbrev pub callee_symbol : ℕ → Sym
 callee_symbol k = undefined_symbol (callee_name k)
@@ -152,60 +132,3 @@ unfoldable pub made_file : ℕ → ℕ → List ℕ
 made_file n k =
     ehdr_bytes (relocatable_head (headers_place k) 8 7)
     ++ (contents k ++ (flat_map shdr_bytes (null_section ∷ sections_from_one (length (strings n k)) k) ++ strings n k))
-
--- a section as it is read, by its header and its name
-abbrev pub section_read : ℕ → Shdr → List ℕ → Section
-section_read k s name = record {
-  name = record { at = names_place k + s.name; len = length name };
-  kind = s.kind;
-  flags = s.flags;
-  at = s.offset;
-  size = s.size;
-  align = s.addralign;
-}
-
--- a symbol as it is read, by its record and its name
-abbrev pub symbol_read : ℕ → Sym → List ℕ → Symbol
-symbol_read k y name = record {
-  name = record { at = strings_place k + y.name; len = length name };
-  binding = y.info / 16;
-  kind = y.info % 16;
-  visibility = y.other % 4;
-  section = y.shndx;
-  value = y.value;
-  size = y.size;
-}
-
--- the field of the entry of a relocation section, by that section, the section that it changes, the symbol and the entry
-abbrev pub field_read : ℕ → ℕ → ℕ → ℕ → Rela → RawField
-field_read section changes symbol kind r =
-    record { rela = section; index = 0; section = changes; offset = r.offset; kind = kind; symbol = symbol; addend = r.addend }
-
--- THE OBJECT that stands in the file of object k of n
-abbrev pub made_object : ℕ → ℕ → Object
-made_object n k = record {
-  sections = section_read k (text_section k) (codes ".text")
-      ∷ section_read k (data_section k) (codes ".data")
-      ∷ section_read k (text_entries_section k) (codes ".rela.text")
-      ∷ section_read k (data_entries_section k) (codes ".rela.data")
-      ∷ section_read k (symbols_section k) (codes ".symtab")
-      ∷ section_read k (strings_section (length (strings n k)) k) (codes ".strtab")
-      ∷ section_read k (names_section k) (codes ".shstrtab") ∷ [];
-  symbols = no_symbol ∷ symbol_read k (own_symbol k) (function_name k) ∷ symbol_read k (callee_symbol k) (function_name (callee n k)) ∷ [];
-  fields = field_read 3 1 2 R_X86_64_PLT32 text_entry ∷ field_read 4 2 1 R_X86_64_64 data_entry ∷ [];
-  groups = [];
-}
-
--- it is read of the file, without a flaw, and its symbols have their names
-pub record IsMade (n k : ℕ) (b : List ℕ) : Type 0 where
-  pub sound : flaw b ≡ None
-  pub whole : object b ≡ made_object n k
-  pub sections : map (λ x. text_at b x.name) (made_object n k).sections
-      ≡ codes ".text" ∷ codes ".data" ∷ codes ".rela.text" ∷ codes ".rela.data" ∷ codes ".symtab" ∷ codes ".strtab" ∷ codes ".shstrtab" ∷ []
-  pub symbols : map (λ y. text_at b y.name) (made_object n k).symbols ≡ [] ∷ function_name k ∷ function_name (callee n k) ∷ []
-  pub text : text_at b (record { at = ehdr.SIZE; len = text_size k }) ≡ text k
-  pub words : text_at b (record { at = data_place k; len = data_size }) ≡ replicate data_size 0
-
--- each object of each kit
-abbrev pub MadeObjects : Type 0
-MadeObjects = (n k : ℕ) → 1 ≤ n → n ≤ 4096 → k < n → IsMade n k (made_file n k)

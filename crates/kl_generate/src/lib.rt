@@ -2,8 +2,10 @@
 #![tactic(auto)]
 
 mod gap_law;
+mod limits;
 mod object;
 mod record;
 
 pub use gap_law::gap_objects;
-pub use object::{COUNT_LIMIT, made_object};
+pub use limits::{MADE_BYTES_LIMIT, MADE_LIMIT};
+pub use object::made_object;

@@ -1,7 +1,9 @@
 // The objects of a kit that is made.
 ghost use Rattle.std.specs.Prelude.{◌≡◌, ◌+◌, ◌<◌, ◌≤◌, ◌++◌, ◌∷◌, [], length, vec_len, IfOk, OnOk};
 ghost use Rattle.kl_draw.specs.GapFile.{null_section};
-ghost use Rattle.kl_generate.specs.MadeFile.{bytes_section, callee, callee_name, contents, entry_section, function_name, headers_place, made_file, own_symbol, sections_from_one, symbol_section, symbols_bytes, text, text_size, undefined_symbol};
+ghost use Rattle.kl_generate.specs.Made.{callee, made_name, text_size};
+ghost use Rattle.kl_generate.specs.MadeFile.{bytes_section, callee_name, contents, entry_section, headers_place, made_file, own_symbol, sections_from_one, symbol_section, symbols_bytes, text, undefined_symbol};
+ghost use Rattle.kl_generate.specs.declared.limits.TheConstants.{MADE_LIMIT};
 
 use crate::record::{entry_bytes, symbol_bytes};
 use itoa::Buffer;
@@ -14,9 +16,6 @@ use kl_elf::abi::{
 use kl_elf::{Ehdr, Rela, Shdr, Sym};
 use kl_model::area::NOP;
 use std::alloc::Global;
-
-/// How many objects a kit that is made may have.
-pub const COUNT_LIMIT: u32 = 4096;
 
 /// The instruction `call`, by a distance of four bytes.
 pub const CALL: u8 = 0xe8;
@@ -72,13 +71,12 @@ fn text_size(number: u32) -> u64
     ensures long { 16 ≤ result }
     ensures short { result ≤ 64 }
 {
-    16 * (1 + u64::from(number % 4))
+    16 + 16 * u64::from(number % 4)
 }
 
 /// The number of the object that an object calls.
 fn callee(count: u32, number: u32) -> u32
-    requires some { 1 ≤ count }
-    requires few { count ≤ COUNT_LIMIT }
+    requires few { count ≤ MADE_LIMIT }
     requires number { number < count }
     ensures { result ≡ callee count number }
 {
@@ -87,7 +85,7 @@ fn callee(count: u32, number: u32) -> u32
 
 /// Pushes the name of an object's function and a zero byte.
 fn push_name(strings: &mut Vec<u8>, number: u32) -> Result<(), NoMemory>
-    ensures name { OnOk result (strings.new.items ≡ strings.old.items ++ (function_name number ++ 0 ∷ [])) }
+    ensures name { OnOk result (strings.new.items ≡ strings.old.items ++ (made_name number ++ 0 ∷ [])) }
     ensures short { OnOk result (length strings.new.items ≤ length strings.old.items + 42) }
 {
     strings.push(b'f')?;
@@ -98,7 +96,7 @@ fn push_name(strings: &mut Vec<u8>, number: u32) -> Result<(), NoMemory>
 
 /// The empty name and the name of an object's function, each ended by a zero byte.
 fn own_name(alloc: Global, number: u32) -> Result<Vec<u8>, NoMemory>
-    ensures names { IfOk result (λ v. v.items ≡ 0 ∷ function_name number ++ 0 ∷ []) }
+    ensures names { IfOk result (λ v. v.items ≡ 0 ∷ made_name number ++ 0 ∷ []) }
     ensures short { IfOk result (λ v. vec_len v ≤ 43) }
 {
     let mut strings = Vec::new(alloc);
@@ -256,8 +254,7 @@ fn push_contents(file: &mut Vec<u8>, number: u32, name: u32) -> Result<(), NoMem
 /// to 64 bytes, which calls the function of another object, and a data word that holds the address of its own function. Its function is
 /// named `f` and its number. The only error is want of memory.
 pub fn made_object(alloc: Global, count: u32, number: u32) -> Result<Vec<u8>, NoMemory>
-    requires some { 1 ≤ count }
-    requires few { count ≤ COUNT_LIMIT }
+    requires few { count ≤ MADE_LIMIT }
     requires number { number < count }
     ensures file { IfOk result (λ b. b.items ≡ made_file count number) }
 {

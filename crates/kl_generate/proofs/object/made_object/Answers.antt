@@ -2,7 +2,8 @@ use Rattle.std.proofs.Common.{ℕ, ◌≡◌, ◌+◌, ◌∙◌, List, [], ◌�
 use Rattle.std.specs.Prelude.{flat_map}
 use Rattle.kl_model.specs.Written.{ehdr_bytes, shdr_bytes}
 use Rattle.kl_draw.specs.GapFile.{null_section, relocatable_head}
-use Rattle.kl_generate.specs.MadeFile.{callee, contents, function_name, headers_place, made_file, sections_from_one, strings}
+use Rattle.kl_generate.specs.Made.{callee, made_name}
+use Rattle.kl_generate.specs.MadeFile.{contents, headers_place, made_file, sections_from_one, strings}
 use Rattle.kl_generate.proofs.object.made_object.Goals as goal
 
 -- parts that are appended one by one
@@ -21,7 +22,7 @@ returns c =
     let k = c.args.number in
     let names : c.push_name.new.strings.items ≡ strings n k =
         rw (c.in_ok-push_name.ensures.name, c.in_ok-strings.ensures.names, c.callee.ensures)
-        (ap (λ xs. 0 ∷ xs) (append_assoc (function_name k) (0 ∷ []) (function_name (callee n k) ++ 0 ∷ []))) in
+        (ap (λ xs. 0 ∷ xs) (append_assoc (made_name k) (0 ∷ []) (made_name (callee n k) ++ 0 ∷ []))) in
     let head : c.head_bytes.result ≡ ehdr_bytes (relocatable_head (headers_place k) 8 7) =
         rw (c.head_bytes.ensures, c.relocatable_head-head.ensures, c.headers_place-headers.ensures.place) refl in
     let headers : flat_map shdr_bytes c.sections-sections.result ≡ flat_map shdr_bytes (null_section ∷ sections_from_one (length c.push_name.new.strings.items) k) =
