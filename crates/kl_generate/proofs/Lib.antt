@@ -1,2 +1,4 @@
 pub mod GapRead
+pub mod MadeRead
 pub mod RecordBytes
+pub mod TablesRead

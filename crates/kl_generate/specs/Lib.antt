@@ -1,3 +1,4 @@
 pub mod GapRead
 pub mod Made
 pub mod MadeFile
+pub mod MadeRead

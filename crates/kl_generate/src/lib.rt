@@ -3,9 +3,11 @@
 
 mod gap_law;
 mod limits;
+mod made_law;
 mod object;
 mod record;
 
 pub use gap_law::gap_objects;
 pub use limits::{MADE_BYTES_LIMIT, MADE_LIMIT};
+pub use made_law::made_objects;
 pub use object::made_object;
