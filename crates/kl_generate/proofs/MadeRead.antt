@@ -1,6 +1,6 @@
 -- A made object reads as the input of its kit.
-use Rattle.std.proofs.Common.{ℕ, zero, suc, ◌≡◌, ◌+◌, ◌-◌, ◌*◌, ◌%◌, ◌^◌, ◌<◌, ◌≤◌, ◌∙◌, Bool, true, false, ◌&&◌, List, [], ◌∷◌, ◌++◌, length, get_or, take, drop, replicate, refl, ap, sym, arith, append_assoc, codes, decimal}
-use Rattle.std.specs.Prelude.{Some, None, flat_map, position, nat_le, nat_lt, ◌==◌}
+use Rattle.std.proofs.Common.{ℕ, ◌≡◌, ◌+◌, ◌-◌, ◌*◌, ◌^◌, ◌<◌, ◌≤◌, ◌∙◌, true, false, ◌&&◌, List, [], ◌∷◌, ◌++◌, length, take, drop, replicate, refl, ap, sym, arith, append_assoc, codes, decimal}
+use Rattle.std.specs.Prelude.{Some, None, flat_map, position, ◌==◌}
 use Rattle.std.specs.Int.RustNames.{count_ones}
 use Rattle.std.specs.Str.Parse.{AllDigits}
 use Rattle.std.proofs.lemmas.Bool.{le-ltb, ne_eqb}
@@ -14,36 +14,33 @@ use Rattle.kl_base.specs.declared.class.Range.{Range}
 use Rattle.kl_base.specs.declared.limits.TheConstants.{SIZE_LIMIT}
 use Rattle.kl_elf.specs.Records.{rela_at, sym_at}
 use Rattle.kl_elf.specs.declared.records.Ehdr.{Ehdr}
-use Rattle.kl_elf.specs.declared.records.Rela.{Rela}
 use Rattle.kl_elf.specs.declared.records.Shdr.{Shdr}
-use Rattle.kl_elf.specs.declared.records.Sym.{Sym}
 use Rattle.kl_model.specs.Kept.{no_symbol}
 use Rattle.kl_model.specs.Texts.{has, text_at}
 use Rattle.kl_model.specs.Written.{ehdr_bytes, rela_bytes, shdr_bytes, sym_bytes}
 use Rattle.kl_model.specs.declared.object.Object.{Object}
-use Rattle.kl_model.specs.declared.object.RawField.{RawField}
 use Rattle.kl_model.specs.declared.object.Section.{Section}
 use Rattle.kl_model.specs.declared.object.Symbol.{Symbol}
 use Rattle.kl_rel.specs.Flaws.{first_of}
-use Rattle.kl_rel.specs.Headers.{head, head_flaw, null_header, table_checks, ranges_flaw, string_in, section}
-use Rattle.kl_rel.specs.Objects.{flaw, object}
-use Rattle.kl_rel.specs.Sections.{has_priority, is_alignment, is_linked_type, names, section_checks, section_name, sections_flaw, sections_in}
-use Rattle.kl_rel.specs.SymbolTables.{listed_symbol, symbol_checks, symbol_count, symbol_form_checks, symbol_in, symbol_place_checks, symbol_table, symbol_table_checks, symbol_tables, symbols_flaw, symbols_in, table_form_checks}
-use Rattle.kl_rel.specs.Relocations.{fields_before, fields_in, fields_of, is_rel, is_rela, listed_field, rela_flaw_of, relocations_flaw}
+use Rattle.kl_rel.specs.Headers.{head, head_flaw, table_checks, ranges_flaw, string_in, section}
+use Rattle.kl_rel.specs.Objects.{object}
+use Rattle.kl_rel.specs.Sections.{has_priority, is_alignment, names, section_checks, sections_flaw, sections_in}
+use Rattle.kl_rel.specs.SymbolTables.{listed_symbol, symbol_checks, symbol_count, symbol_form_checks, symbol_place_checks, symbols_flaw, symbols_in, table_form_checks}
+use Rattle.kl_rel.specs.Relocations.{fields_before, fields_in, fields_of, is_rel, is_rela, rela_flaw_of, relocations_flaw}
 use Rattle.kl_rel.specs.SectionGroups.{groups_flaw, groups_in}
 use Rattle.kl_rel.proofs.KnownRecords.{IsSmallEhdr, IsSmallRela, IsSmallShdr, IsSmallSym, behind, read_rela, read_sym, string_there, text_there}
 use Rattle.kl_rel.proofs.KnownFiles.{EachFrom, HasTable, IsFile, known_file, shnum_is, shstrndx_is, head_passes, table_passes, ranges_pass, sections_pass, other_passes, allocated_passes, fields_listed, flags_pass, form_passes, no_flaw, no_groups, no_relocation, object_is, one_table, relocations_pass, section_listed, sections_listed, tables_are}
 use Rattle.kl_draw.specs.GapFile.{null_section, relocatable_head}
-use Rattle.kl_elf.specs.declared.abi.TheConstants.{R_X86_64_64, R_X86_64_PLT32, SHF_ALLOC, SHF_COMPRESSED, SHF_EXECINSTR, SHF_TLS, SHF_WRITE, SHN_UNDEF, SHT_PROGBITS, SHT_RELA, STB_GLOBAL, STT_FUNC, STT_NOTYPE}
+use Rattle.kl_elf.specs.declared.abi.TheConstants.{SHF_ALLOC, SHF_COMPRESSED, SHF_EXECINSTR, SHF_TLS, SHF_WRITE, SHN_UNDEF, SHT_PROGBITS, STT_FUNC, STT_NOTYPE}
 use Rattle.kl_elf.specs.declared.records.TheConstants.Ehdr as ehdr
 use Rattle.kl_elf.specs.declared.records.TheConstants.Rela as rela
 use Rattle.kl_elf.specs.declared.records.TheConstants.Shdr as shdr
 use Rattle.kl_elf.specs.declared.records.TheConstants.Sym as sym_record
 use Rattle.kl_model.specs.declared.area.TheConstants as area
-use Rattle.kl_generate.specs.declared.limits.TheConstants.{MADE_BYTES_LIMIT, MADE_LIMIT}
+use Rattle.kl_generate.specs.declared.limits.TheConstants.{MADE_LIMIT}
 use Rattle.kl_generate.specs.declared.object.TheConstants as made
 use Rattle.kl_generate.specs.Made.{IsMadeInput, IsMadeSection, IsMadeSymbol, callee, made_call, made_name, made_word, text_size}
-use Rattle.kl_generate.specs.MadeFile.{bytes_section, callee_name, callee_symbol, contents, data_entries_place, data_entries_section, data_entry, data_place, data_section, data_size, entry_section, headers_place, made_file, names_place, names_section, own_symbol, padding, section_names, sections_from_one, strings, strings_place, strings_section, symbols_bytes, symbols_place, symbols_section, text, text_entries_place, text_entries_section, text_entry, text_section, undefined_symbol}
+use Rattle.kl_generate.specs.MadeFile.{bytes_section, callee_name, callee_symbol, data_entries_place, data_entries_section, data_entry, data_place, data_section, data_size, headers_place, made_file, names_place, names_section, own_symbol, padding, section_names, sections_from_one, strings, strings_place, strings_section, symbols_place, symbols_section, text, text_entries_place, text_entries_section, text_entry, text_section}
 use Rattle.kl_generate.specs.MadeRead.{IsMadeRead, MadeObjects, made_input}
 use Rattle.kl_generate.proofs.TablesRead.{HasNoZero, IsEntrySection, ended_text, one_entry_passes, one_field, symbol_listed, symbol_passes, symbols_listed, symbols_pass, three_symbols}
 
@@ -518,15 +515,35 @@ module _ (n k : ℕ) (few : n ≤ MADE_LIMIT) (below : k < n) where
 
   entries : relocations_flaw b ≡ None
   entries =
-      relocations_pass b h ss file
-      ((plain 1 _ (file.sections 1) refl refl).0, ((plain 2 _ (file.sections 2) refl refl).0, (text_entries_pass, (data_entries_pass, ((plain 5 _ (file.sections 5) refl refl).0,
-      ((plain 6 _ (file.sections 6) refl refl).0, ((plain 7 _ (file.sections 7) refl refl).0, tt)))))))
+      relocations_pass b h ss file (
+        (plain 1 _ (file.sections 1) refl refl).0,
+        (
+          (plain 2 _ (file.sections 2) refl refl).0,
+          (
+            text_entries_pass,
+            (
+              data_entries_pass,
+              (
+                (plain 5 _ (file.sections 5) refl refl).0,
+                ((plain 6 _ (file.sections 6) refl refl).0, ((plain 7 _ (file.sections 7) refl refl).0, tt)),
+              ),
+            ),
+          ),
+        ),
+      )
 
   fields : fields_in b ≡ made_call ∷ made_word ∷ []
   fields =
       fields_listed b h ss file
-      ∙ rw ((plain 1 _ (file.sections 1) refl refl).1, (plain 2 _ (file.sections 2) refl refl).1, text_fields, data_fields, (plain 5 _ (file.sections 5) refl refl).1,
-      (plain 6 _ (file.sections 6) refl refl).1, (plain 7 _ (file.sections 7) refl refl).1) refl
+      ∙ rw (
+        (plain 1 _ (file.sections 1) refl refl).1,
+        (plain 2 _ (file.sections 2) refl refl).1,
+        text_fields,
+        data_fields,
+        (plain 5 _ (file.sections 5) refl refl).1,
+        (plain 6 _ (file.sections 6) refl refl).1,
+        (plain 7 _ (file.sections 7) refl refl).1,
+      ) refl
 
   is_object : object b
       ≡ record {

@@ -1,4 +1,4 @@
-use Rattle.std.proofs.Common.{ℕ, ◌≡◌, ◌+◌, ◌∙◌, List, [], ◌∷◌, ◌++◌, length, refl, ap, sym, append_assoc}
+use Rattle.std.proofs.Common.{ℕ, ◌≡◌, ◌∙◌, List, [], ◌∷◌, ◌++◌, length, refl, ap, append_assoc}
 use Rattle.std.specs.Prelude.{flat_map}
 use Rattle.kl_model.specs.Written.{ehdr_bytes, shdr_bytes}
 use Rattle.kl_draw.specs.GapFile.{null_section, relocatable_head}
@@ -21,12 +21,13 @@ returns c =
     let n = c.args.count in
     let k = c.args.number in
     let names : c.push_name.new.strings.items ≡ strings n k =
-        rw (c.in_ok-push_name.ensures.name, c.in_ok-strings.ensures.names, c.callee.ensures)
-        (ap (λ xs. 0 ∷ xs) (append_assoc (made_name k) (0 ∷ []) (made_name (callee n k) ++ 0 ∷ []))) in
+    rw (c.in_ok-push_name.ensures.name, c.in_ok-strings.ensures.names, c.callee.ensures)
+    (ap (λ xs. 0 ∷ xs) (append_assoc (made_name k) (0 ∷ []) (made_name (callee n k) ++ 0 ∷ []))) in
     let head : c.head_bytes.result ≡ ehdr_bytes (relocatable_head (headers_place k) 8 7) =
-        rw (c.head_bytes.ensures, c.relocatable_head-head.ensures, c.headers_place-headers.ensures.place) refl in
+    rw (c.head_bytes.ensures, c.relocatable_head-head.ensures, c.headers_place-headers.ensures.place) (refl {a = ehdr_bytes (relocatable_head (headers_place k) 8 7)}) in
     let headers : flat_map shdr_bytes c.sections-sections.result ≡ flat_map shdr_bytes (null_section ∷ sections_from_one (length c.push_name.new.strings.items) k) =
-        rw (c.sections-sections.ensures, c.deref.ensures.value) refl in
+    ap (flat_map shdr_bytes) c.sections-sections.ensures
+    ∙ ap (λ (xs : List ℕ). flat_map shdr_bytes (null_section ∷ sections_from_one (length xs) k)) c.deref.ensures.value in
     record {
       file = appended _ _ _ _ _ _ _ _ _ c.in_ok-file.ensures.items c.in_ok-extend_from_slice.ensures.items c.in_ok-push_contents.ensures c.in_ok-push_sections.ensures
           (rw c.deref-2.ensures.value at c.in_ok-extend_from_slice-2.ensures.items)

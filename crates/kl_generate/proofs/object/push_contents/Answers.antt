@@ -1,6 +1,6 @@
-use Rattle.std.proofs.Common.{ℕ, ◌≡◌, List, ◌++◌, ap, replicate, append_assoc}
+use Rattle.std.proofs.Common.{ℕ, ◌≡◌, List, ◌++◌, replicate, append_assoc}
 use Rattle.kl_model.specs.Written.{rela_bytes}
-use Rattle.kl_generate.specs.MadeFile.{callee_name, contents, data_entry, data_size, padding, section_names, symbols_bytes, text, text_entry}
+use Rattle.kl_generate.specs.MadeFile.{callee_name, data_entry, data_size, padding, section_names, symbols_bytes, text, text_entry}
 use Rattle.kl_generate.proofs.object.push_contents.Goals as goal
 
 -- parts that are appended one by one
