@@ -1,11 +1,9 @@
 // The gap object of a kernel's kit.
-ghost use Rattle.std.specs.Prelude.{ℕ, ◌≡◌, ◌≤◌, ◌++◌, flat_map, length, replicate, IfOk, OnOk};
-ghost use Rattle.kl_base.specs.declared.limits.TheConstants.{SIZE_LIMIT};
-ghost use Rattle.kl_draw.specs.GapFile.{gap_file, gap_sections, headers_place};
+ghost use Rattle.std.specs.Prelude.{◌≡◌, IfOk};
+ghost use Rattle.kl_draw.specs.GapFile.{gap_file, gap_sections};
 ghost use Rattle.kl_model.specs.Fit.{AreGaps};
-ghost use Rattle.kl_model.specs.Written.{shdr_bytes};
 
-use crate::record::{NULL_SECTION, head_bytes, relocatable_head, section_bytes};
+use crate::record::{NULL_SECTION, head_bytes, push_bytes, push_sections, relocatable_head};
 use kl_base::NoMemory;
 use kl_elf::abi::{SHF_ALLOC, SHF_EXECINSTR, SHF_WRITE, SHT_NOBITS, SHT_PROGBITS, SHT_STRTAB};
 use kl_elf::{Ehdr, Shdr};
@@ -69,25 +67,6 @@ fn sections(gaps: &Gaps) -> [Shdr; 6]
         ..NULL_SECTION
     };
     [NULL_SECTION, text, rodata, rwdata, bss, names]
-}
-
-/// Pushes `count` bytes of one value.
-fn push_bytes(file: &mut Vec<u8>, count: u64, byte: u8) -> Result<(), NoMemory>
-    requires { count ≤ SIZE_LIMIT }
-    ensures { OnOk result (file.new.items ≡ file.old.items ++ replicate count byte) }
-{
-    file.resize(file.len() + count as usize, byte)?;
-    Ok(())
-}
-
-/// Pushes section headers.
-fn push_sections(file: &mut Vec<u8>, sections: &[Shdr]) -> Result<(), NoMemory>
-    ensures { OnOk result (file.new.items ≡ file.old.items ++ flat_map shdr_bytes sections.now) }
-{
-    for section in sections {
-        file.extend_from_slice(&section_bytes(section))?;
-    }
-    Ok(())
 }
 
 /// The gap object of a kernel's kit: a relocatable object (gABI, `ET_REL`) whose sections `.text`, `.rodata`, `.data` and `.bss` are the

@@ -1,8 +1,10 @@
 // Records of an ELF file as bytes.
-ghost use Rattle.std.specs.Prelude.{◌≡◌, length};
+ghost use Rattle.std.specs.Prelude.{◌≡◌, ◌≤◌, ◌++◌, flat_map, length, replicate, OnOk};
+ghost use Rattle.kl_base.specs.declared.limits.TheConstants.{SIZE_LIMIT};
 ghost use Rattle.kl_draw.specs.GapFile.{relocatable_head};
 ghost use Rattle.kl_model.specs.Written.{ehdr_bytes, shdr_bytes};
 
+use kl_base::NoMemory;
 use kl_elf::abi::{EM_X86_64, ET_REL, EV_CURRENT, IDENT, SHT_NULL};
 use kl_elf::{Ehdr, Shdr};
 
@@ -75,4 +77,23 @@ pub fn section_bytes(section: &Shdr) -> [u8; Shdr::SIZE]
     let mut bytes = [0; Shdr::SIZE];
     put_section(&mut bytes, section);
     bytes
+}
+
+/// Pushes `count` bytes of one value, `SIZE_LIMIT` at most.
+pub fn push_bytes(file: &mut Vec<u8>, count: u64, byte: u8) -> Result<(), NoMemory>
+    requires { count ≤ SIZE_LIMIT }
+    ensures { OnOk result (file.new.items ≡ file.old.items ++ replicate count byte) }
+{
+    file.resize(file.len() + count as usize, byte)?;
+    Ok(())
+}
+
+/// Pushes section headers, each of 64 bytes.
+pub fn push_sections(file: &mut Vec<u8>, sections: &[Shdr]) -> Result<(), NoMemory>
+    ensures { OnOk result (file.new.items ≡ file.old.items ++ flat_map shdr_bytes sections.now) }
+{
+    for section in sections {
+        file.extend_from_slice(&section_bytes(section))?;
+    }
+    Ok(())
 }

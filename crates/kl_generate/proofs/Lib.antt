@@ -5,3 +5,6 @@ pub mod MadeGraphs
 pub mod MadeFaults
 pub mod MadeFit
 pub mod MadeLinked
+pub mod MadeRead
+pub mod RecordBytes
+pub mod TablesRead

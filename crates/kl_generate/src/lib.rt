@@ -5,7 +5,12 @@
 mod gap_law;
 mod laws;
 mod limits;
+mod made_law;
+mod object;
+mod record;
 
 pub use gap_law::gap_objects;
 pub use laws::{made_graph, made_links};
 pub use limits::{MADE_BYTES_LIMIT, MADE_LIMIT};
+pub use made_law::made_objects;
+pub use object::made_object;

@@ -4,7 +4,7 @@ use Rattle.std.proofs.Math.Seq.{take-suc}
 use Rattle.std.proofs.lemmas.List.{flat_map_more}
 use Rattle.kl_elf.specs.declared.records.Shdr.{Shdr}
 use Rattle.kl_model.specs.Written.{shdr_bytes}
-use Rattle.kl_draw.proofs.gap.push_sections.Goals as goal
+use Rattle.kl_draw.proofs.record.push_sections.Goals as goal
 
 next : (bs : List ℕ) (ss : List Shdr) (i : ℕ) (d : Shdr) → i < length ss
     → (bs ++ flat_map shdr_bytes (take i ss)) ++ shdr_bytes (get_or ss i d) ≡ bs ++ flat_map shdr_bytes (take (i + 1) ss)
