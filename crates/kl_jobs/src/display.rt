@@ -47,8 +47,12 @@ impl fmt::Display for Cause {
             Cause::Usage => f.write_str("the words are no command"),
             Cause::NoMemory => f.write_str("out of memory"),
             Cause::Store => f.write_str("a call on the disk failed"),
-            Cause::Entropy => f.write_str("no random bytes could be read for a seed: '--seed HEX' gives one"),
-            Cause::Sink => f.write_str("all was done, but the line that says so could not be written to standard output"),
+            Cause::Entropy => f.write_str(
+                "no random bytes could be read for a seed: '--seed HEX' gives one",
+            ),
+            Cause::Sink => f.write_str(
+                "all was done, but the line that says so could not be written to standard output",
+            ),
             Cause::Kit(cause) => write!(f, "{cause}"),
             Cause::Object { line, fault, .. } => write!(f, "the object of line {line}: {fault}"),
             Cause::Link(fault) => write!(f, "{fault}"),

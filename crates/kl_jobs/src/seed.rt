@@ -7,10 +7,7 @@ use crate::cause::Cause;
 use kl_store::Entropy;
 
 /// The seed of a command: the given one, or else the next block of the source of random bytes. The only error is `Entropy`.
-pub fn draw_seed<E: Entropy>(
-    given: Option<[u8; 32]>,
-    entropy: &mut E,
-) -> Result<[u8; 32], Cause>
+pub fn draw_seed<E: Entropy>(given: Option<[u8; 32]>, entropy: &mut E) -> Result<[u8; 32], Cause>
     ensures seed { IfOk result (IsSeed given (E.meaning entropy.old) (E.meaning entropy.new)) }
     ensures none { OnErr result (NoneDrawn given (E.meaning entropy.old) (E.meaning entropy.new)) }
     ensures err { IfErr result (λ c. c ≡ Cause.Entropy) }

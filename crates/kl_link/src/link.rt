@@ -45,10 +45,10 @@ fn report(linked: &Linked) -> Report
     requires gaps { GAPS ≤ length linked.now.placement.pieces }
     requires few { length linked.now.placement.pieces < 2 ^ 32 }
     ensures { result ≡ record {
-        pieces = length linked.now.placement.pieces - GAPS;
-        fields = linked.now.fields;
-        bytes = length linked.now.image.items;
-        digest = digest_of linked.now.image.items;
+      pieces = length linked.now.placement.pieces - GAPS;
+      fields = linked.now.fields;
+      bytes = length linked.now.image.items;
+      digest = digest_of linked.now.image.items;
     } }
 {
     Report {

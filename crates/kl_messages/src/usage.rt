@@ -60,11 +60,7 @@ fn tell_link_words(text: &mut String, words: &[Vec<u8>]) -> Result<(), NoMemory>
 }
 
 /// What is wrong with a folder, or with the words behind `--seed`.
-fn tell_seeded_words(
-    text: &mut String,
-    folder: &[u8],
-    values: &[Vec<u8>],
-) -> Result<(), NoMemory> {
+fn tell_seeded_words(text: &mut String, folder: &[u8], values: &[Vec<u8>]) -> Result<(), NoMemory> {
     match values {
         [] => {
             write!(

@@ -151,11 +151,13 @@ fn is_linked(store: &MemStore) -> Result<bool, Fail> {
         .ok_or("a map")?;
     let entry: &[u8] = &[0, 0, 0, 0x81, 0xff, 0xff, 0xff, 0xff];
     let text: &[u8] = b"\xf4\xeb\xfd\xcc";
-    Ok(image.len() == 274_240
-        && &image[24..32] == entry
-        && &image[4096..4100] == text
-        && map == MAP
-        && store.get(&named(b"/kit/link.conf")?) == Some(KIT))
+    Ok(
+        image.len() == 274_240
+            && &image[24..32] == entry
+            && &image[4096..4100] == text
+            && map == MAP
+            && store.get(&named(b"/kit/link.conf")?) == Some(KIT),
+    )
 }
 
 #[test]
@@ -195,7 +197,8 @@ fn links_in_the_drawn_order(rt: HostRuntime) -> Result<(), Fail> {
     let alloc = rt.alloc();
     let call = hex::decode(alloc, CALL)?;
     let mut store = MemStore::new(alloc);
-    let text = b"kind kernel\noutput /bsd\nentry start\nobject a.o\nhead k.o\nobject b.o\nobject c.o\n";
+    let text =
+        b"kind kernel\noutput /bsd\nentry start\nobject a.o\nhead k.o\nobject b.o\nobject c.o\n";
     store.put(&named(b"/kit/link.conf")?, text)?;
     store.put(&named(b"/kit/k.o")?, &object(alloc)?)?;
     for name in [b"/kit/a.o", b"/kit/b.o", b"/kit/c.o"] {
