@@ -69,15 +69,15 @@ set_up() {
     cp "$root/examples/$example/link.conf" "$kit/link.conf"
 }
 
-# Links the kit, and shows the object, the image and the map. The image ends with the object's code, from 4,096 on.
+# Links the kit under a seed, and shows the object, the image and the map. The object's code stands in the image from 4,096 on.
 link_and_show() {
-    local status=0 code=$folder/code
+    local status=0 code=$folder/code seed=0123456789abcdef0123456789abcdef0123456789abcdef0123456789abcdef
     echo
     echo "== the object"
     readelf -SsW "$kit/kernel.o"
     echo
-    echo "== relink link /kit"
-    (cd "$folder" && "$relink" link /kit) || status=$?
+    echo "== relink link /kit --seed $seed"
+    (cd "$folder" && "$relink" link /kit --seed "$seed") || status=$?
     echo "status $status"
     case $status in
     0) ;;
