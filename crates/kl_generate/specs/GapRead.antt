@@ -11,10 +11,14 @@ use Rattle.kl_elf.specs.declared.abi.TheConstants.{SHF_ALLOC, SHF_EXECINSTR, SHF
 use Rattle.kl_elf.specs.declared.records.TheConstants.Ehdr as ehdr
 use Rattle.kl_model.specs.declared.area.TheConstants as area
 
--- a section without alignment, by the places of its name and its bytes
+-- the place of a name in the table of names
+abbrev pub name_place : Gaps → ℕ → ℕ
+name_place z name = names_place z + name
+
+-- a section of a gap, by the places of its name and its bytes
 abbrev pub gap : Gaps → ℕ → ℕ → ℕ → ℕ → ℕ → ℕ → Section
 gap z name len kind flags place size =
-    record { name = record { at = names_place z + name; len = len }; kind = kind; flags = flags; at = place; size = size; align = 16 }
+    record { name = record { at = name_place z name; len = len }; kind = kind; flags = flags; at = place; size = size; align = 16 }
 
 -- THE OBJECT that stands in the file: a section of each class of the size of its gap, the names of the sections, and nothing else
 abbrev pub gap_object : Gaps → Object
@@ -23,7 +27,7 @@ gap_object z = record {
       ∷ gap z 7 7 SHT_PROGBITS SHF_ALLOC (rodata_place z) z.rodata
       ∷ gap z 15 5 SHT_PROGBITS (SHF_ALLOC + SHF_WRITE) (rwdata_place z) z.rwdata
       ∷ gap z 21 4 SHT_NOBITS (SHF_ALLOC + SHF_WRITE) (names_place z) z.bss
-      ∷ record { name = record { at = names_place z + 26; len = 9 }; kind = SHT_STRTAB; flags = 0; at = names_place z; size = 36; align = 1 } ∷ [];
+      ∷ record { name = record { at = name_place z 26; len = 9 }; kind = SHT_STRTAB; flags = 0; at = names_place z; size = 36; align = 1 } ∷ [];
   symbols = [];
   fields = [];
   groups = [];

@@ -35,6 +35,9 @@ section_names =
 abbrev pub padding : List ℕ
 padding = replicate 3 0
 
+abbrev pub names_room : ℕ
+names_room = 64
+
 -- the places of its parts, behind the header and the text
 abbrev pub data_place : ℕ → ℕ
 data_place k = ehdr.SIZE + text_size k
@@ -52,7 +55,7 @@ abbrev pub names_place : ℕ → ℕ
 names_place k = symbols_place k + sym.SIZE * 3
 
 abbrev pub headers_place : ℕ → ℕ
-headers_place k = names_place k + 64
+headers_place k = names_place k + names_room
 
 abbrev pub strings_place : ℕ → ℕ
 strings_place k = headers_place k + shdr.SIZE * 8

@@ -16,7 +16,7 @@ use kl_text::first_line;
 use std::alloc::Global;
 
 /// The length of a map's text that is read, in bytes: 512 MiB.
-pub const MAP_LIMIT: usize = 536_870_912;
+pub const MAP_LIMIT: usize = 512 << 20;
 
 /// Reads a map: accepts exactly the form in which maps are printed, with at least the areas 0 to 14, pieces that ascend strictly
 /// by input, then section, commons numbered from 0, and no gaps or all four in the order of classes. Any other text has a first
