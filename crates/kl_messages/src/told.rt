@@ -7,7 +7,6 @@ use crate::source::{
 };
 use crate::usage::{is_of_system, tell_words};
 use kl_base::{INPUT_LIMIT, KIT_TEXT_LIMIT, Name, NoMemory};
-use kl_cli::{Command, Request};
 use kl_explain::{Shown, tell_flaw, tell_kit_text};
 use kl_jobs::{Cause, KitCause, ObjectCause};
 use kl_model::{KitInput, KitKind};
@@ -166,13 +165,16 @@ fn add_source<S: Store>(
     Ok(())
 }
 
-/// The folder of the kit whose files a cause speaks of.
+/// The folder of the kit whose files a cause speaks of: that of `link DIR`.
 fn folder_of(ended: &Ended<'_>) -> Option<Name> {
     if !is_of_kit(ended.cause) {
         return None;
     }
-    match Request::of_words(ended.words?)?.command {
-        Command::Link(dir) => Some(dir),
+    match ended.words? {
+        [command, folder, ..] if command.as_slice() == b"link".as_slice() => {
+            Name::from_bytes(folder).ok()
+        }
+        _ => None,
     }
 }
 
