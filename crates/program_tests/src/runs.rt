@@ -192,18 +192,24 @@ fn tells_faults_of_the_source_and_the_sink(rt: HostRuntime) -> Result<(), Fail> 
     Ok(())
 }
 
+/// A store with a kit of three drawn objects in the folder `/kit`.
+fn drawn_store(alloc: Global) -> Result<MemStore, Fail> {
+    let text =
+        b"kind kernel\noutput /bsd\nentry start\nobject a.o\nhead k.o\nobject b.o\nobject c.o\n";
+    let call = hex::decode(alloc, CALL)?;
+    let mut store = MemStore::new(alloc);
+    store.put(&named(b"/kit/link.conf")?, text)?;
+    store.put(&named(b"/kit/k.o")?, &object(alloc)?)?;
+    store.put(&named(b"/kit/a.o")?, &call)?;
+    store.put(&named(b"/kit/b.o")?, &call)?;
+    store.put(&named(b"/kit/c.o")?, &call)?;
+    Ok(store)
+}
+
 #[test]
 fn links_in_the_drawn_order(rt: HostRuntime) -> Result<(), Fail> {
     let alloc = rt.alloc();
-    let call = hex::decode(alloc, CALL)?;
-    let mut store = MemStore::new(alloc);
-    let text =
-        b"kind kernel\noutput /bsd\nentry start\nobject a.o\nhead k.o\nobject b.o\nobject c.o\n";
-    store.put(&named(b"/kit/link.conf")?, text)?;
-    store.put(&named(b"/kit/k.o")?, &object(alloc)?)?;
-    for name in [b"/kit/a.o", b"/kit/b.o", b"/kit/c.o"] {
-        store.put(&named(name)?, &call)?;
-    }
+    let mut store = drawn_store(alloc)?;
     let (exit, _) = answer(alloc, &[b"link", b"/kit"], &mut store)?;
     assert_eq!(rt; (exit.status, exit.cause), (0, Cause::Done));
     let map = store
@@ -263,6 +269,8 @@ fn links_in_kit_order(rt: HostRuntime) -> Result<(), Fail> {
     let (exit, _) = answer(alloc, &[b"link", b"/kit"], &mut store)?;
     assert_eq!(rt; (exit.status, exit.cause), (0, Cause::Done));
     let image = store.get(&named(b"/kit/linked.relink")?).ok_or("an image")?;
+    assert_eq!(rt; image.len(), 274_240);
+
     // the call stands behind the gap, 0x7a60 behind the base
     assert_eq!(rt; &image[0x1000..0x1004], b"\xf4\xeb\xfd\xcc".as_slice());
     assert_eq!(rt;
