@@ -2,6 +2,7 @@ pub mod GapRead
 pub mod ListsMade
 pub mod MadeInputs
 pub mod MadeGraphs
+pub mod MadeInputsOf
 pub mod MadeFaults
 pub mod MadeFit
 pub mod MadeLinked

@@ -3,6 +3,8 @@
 #![tactic(auto)]
 
 mod gap_law;
+mod input;
+mod kit;
 mod laws;
 mod limits;
 mod made_law;
@@ -10,6 +12,8 @@ mod object;
 mod record;
 
 pub use gap_law::gap_objects;
+pub use input::made_inputs;
+pub use kit::made_kit;
 pub use laws::{made_graph, made_links};
 pub use limits::{MADE_BYTES_LIMIT, MADE_LIMIT};
 pub use made_law::made_objects;
