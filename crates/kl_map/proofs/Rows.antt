@@ -8,7 +8,9 @@ use Rattle.std.proofs.lemmas.Option.{option_and_then_some}
 use Rattle.kl_base.specs.declared.class.Class.{Class}
 use Rattle.kl_base.proofs.Bools.{and_left, and_right, equal_bytes, same_bytes}
 use Rattle.kl_text.specs.Lines.{IsLine, after_prefix, cut, lacks, line}
+use Rattle.kl_text.specs.Numbers.{number_of}
 use Rattle.kl_text.proofs.Cuts.{after_prefix-append, append-after_prefix, append-cut, cut-append, path-lacks}
+use Rattle.kl_text.proofs.Numerals.{number_again, number_from}
 use Rattle.kl_base.specs.Names.{is_path_byte}
 use Rattle.kl_model.specs.Areas.{Area, areas}
 use Rattle.kl_model.specs.declared.graph.PieceId.{PieceId}
@@ -16,10 +18,10 @@ use Rattle.kl_model.specs.declared.graph.PieceId.TheVariants.{Section, Common, G
 use Rattle.kl_model.specs.declared.place.AreaAt.{AreaAt}
 use Rattle.kl_model.specs.declared.place.Placed.{Placed}
 use Rattle.kl_map.specs.MapText.{area_line, area_name, class_name, hexadecimal, id_words, placed_line}
-use Rattle.kl_map.specs.Reading.{area_of, class_of, common_of, gap_of, id_of, number_of, placed_of, section_of, sizes_of}
+use Rattle.kl_map.specs.Reading.{area_of, class_of, common_of, gap_of, id_of, placed_of, section_of, sizes_of}
 use Rattle.kl_map.specs.Spelling.{AreaFits, IdFits, PlacedFits}
 use Rattle.kl_map.proofs.Lines.{id_then}
-use Rattle.kl_map.proofs.Spelled.{address_lacks, class_again, class_from, class_lacks, mapped, number_again, number_from, sizes_again, sizes_from, sizes_text, some_none}
+use Rattle.kl_map.proofs.Spelled.{address_lacks, class_again, class_from, class_lacks, mapped, sizes_again, sizes_from, sizes_text, some_none}
 use Rattle.kl_map.proofs.Texts.{decimal_lacks}
 
 -- an area's line without its newline

@@ -1,17 +1,14 @@
 -- Words are read as they were printed, and what is read was printed so.
-use Rattle.std.proofs.Common.{◌≡◌, ◌-◌, ◌<◌, ◌≤◌, ◌^◌, ◌⊎◌, inl, inr, ℕ, Bool, true, false, cond, ◌&&◌, List, [], ◌∷◌, ◌++◌, length, refl, sym, ap, ◌∙◌, subst, arith, codes, decimal, Option}
-use Rattle.std.specs.Prelude.{Some, None, Ok, Err, Result, nat_le, nat_lt, is_some}
+use Rattle.std.proofs.Common.{◌≡◌, ◌-◌, ◌<◌, ◌≤◌, ◌^◌, ◌⊎◌, inl, inr, ℕ, Bool, true, false, cond, ◌&&◌, List, [], ◌∷◌, ◌++◌, length, refl, sym, ap, ◌∙◌, subst, arith, codes, Option}
+use Rattle.std.specs.Prelude.{Some, None, Ok, Err, Result, nat_le, is_some}
 use Rattle.std.specs.Int.{from_be_bytes, to_be_bytes, w64}
 use Rattle.std.specs.Option.{option_and_then, option_map}
-use Rattle.std.specs.Str.{IsUtf8, bytes_eq}
-use Rattle.std.specs.Str.Parse.{ParsesUnsigned, digits_value}
+use Rattle.std.specs.Str.{bytes_eq}
 use Rattle.std.specs.List.{list_all}
 use Rattle.std.proofs.lemmas.List.Sums.{list_all-from_AllPass}
-use Rattle.std.proofs.lemmas.Bool.{leb-true, le-leb, lt-ltb, ltb-true}
-use Rattle.std.proofs.lemmas.Fmt.{IsAscii-decimal, decimal_is_IsNumeral, parse-decimal}
+use Rattle.std.proofs.lemmas.Bool.{leb-true, le-leb}
 use Rattle.std.proofs.lemmas.Nat.{be_bytes_8, from_be_bytes-to_be_bytes_8}
 use Rattle.std.proofs.lemmas.Option.{option_and_then_some}
-use Rattle.std.proofs.lemmas.Str.{IsUtf8-from_ascii}
 use Rattle.hex.specs.Hex.{IsBytes, decode_sized, encode_lower, is_hex_digit}
 use Rattle.hex.specs.declared.error.FromHexError.{FromHexError}
 use Rattle.hex.proofs.HexLemmas.{decode_of-encode_lower, decode_of-ok, decode_sized-encode_lower, decode_sized-ok, decode_sized-twice}
@@ -23,7 +20,7 @@ use Rattle.kl_base.specs.declared.name.NameFault.{NameFault}
 use Rattle.kl_text.specs.Lines.{after_prefix, cut, lacks}
 use Rattle.kl_text.proofs.Cuts.{after_prefix-append, append-after_prefix, append-cut, cut-append, path-lacks}
 use Rattle.kl_map.specs.MapText.{class_name, hexadecimal}
-use Rattle.kl_map.specs.Reading.{address_of, bytes_of, class_of, name_if, name_of, number_of, sizes_of, spelled}
+use Rattle.kl_map.specs.Reading.{address_of, bytes_of, class_of, name_if, name_of, sizes_of, spelled}
 use Rattle.kl_map.proofs.Texts.{bytes_fit}
 
 pub some_none : {A P : Type 0} (x : A) → ◌≡◌ {A = Option A} (Some x) None → P
@@ -81,38 +78,6 @@ address_from word n e =
       append-after_prefix (codes "0x") word digits first ∙ ap (λ (l : List ℕ). codes "0x" ++ l) (from.word_is ∙ ap encode_lower (sym again)),
       subst (λ (m : ℕ). m < 2 ^ 64) is (eight_fit bytes from.fit),
     )))
-
--- a number
-wide : (n : ℕ) → n < 2 ^ 32 → n < 2 ^ 64
-wide n fits = omega arith
-
-both_true : (a b : Bool) → a ≡ true → b ≡ true → (a && b) ≡ true
-both_true a b p q = rw (p, q) refl
-
-value_again : (n : ℕ) → n < 2 ^ 32 → digits_value 10 (decimal n) ≡ n
-value_again n fits = (decimal_is_IsNumeral n (wide n fits)).1
-
-pub number_again : (n : ℕ) → n < 2 ^ 32 → number_of (decimal n) ≡ Some n
-unfolding number_of
-number_again n fits =
-    let pick = λ (m : ℕ). cond {A = Option ℕ} (nat_lt m (2 ^ 32) && bytes_eq (decimal m) (decimal n)) (Some m) None in
-    ap pick (value_again n fits) ∙ ap (λ b. cond b (Some n) None) (both_true (nat_lt n (2 ^ 32)) (bytes_eq (decimal n) (decimal n)) (lt-ltb n (2 ^ 32) fits) (same_bytes (decimal n)))
-
-pub number_from : (word : List ℕ) (n : ℕ) → number_of word ≡ Some n → (word ≡ decimal n) × (n < 2 ^ 32)
-unfolding number_of
-number_from word n e =
-    let m = digits_value 10 word in
-    let both = chosen (nat_lt m (2 ^ 32) && bytes_eq (decimal m) word) m n e in
-    let less = ltb-true m (2 ^ 32) (and_left (nat_lt m (2 ^ 32)) (bytes_eq (decimal m) word) both.0) in
-    let same = equal_bytes (decimal m) word (and_right (nat_lt m (2 ^ 32)) (bytes_eq (decimal m) word) both.0) in
-    (sym same ∙ ap decimal both.1, subst (λ (k : ℕ). k < 2 ^ 32) both.1 less)
-
--- what a number as it is printed is read as
-pub parsed_again : {E : Type 0} (word : List ℕ) (r : Result ℕ E) (n : ℕ) → n < 2 ^ 32 → decimal n ≡ word → ParsesUnsigned 32 10 word r → r ≡ Ok n
-parsed_again word r n fits e parses = parse-decimal 32 n word r fits (wide n fits) (sym e) parses
-
-pub is_text : (word : List ℕ) (n : ℕ) → n < 2 ^ 32 → decimal n ≡ word → IsUtf8 word
-is_text word n fits e = subst IsUtf8 e (IsUtf8-from_ascii (decimal n) (IsAscii-decimal n (wide n fits)))
 
 -- a printable byte that isn't a space, and a digit
 in_range : (low high b : ℕ) → 33 ≤ low → high ≤ 126 → (nat_le low b && nat_le b high) ≡ true → is_path_byte b ≡ true

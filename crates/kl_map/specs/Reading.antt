@@ -1,9 +1,8 @@
 -- What is read of a line. For the contracts inside this crate alone.
-use Rattle.std.specs.Prelude.{ℕ, ◌≡◌, ◌+◌, ◌^◌, ◌<◌, ◌==◌, ◌&&◌, nat_lt, Bool, true, false, not, if◌then◌else◌, List, [], ◌∷◌, ◌++◌, length, codes, decimal, Option, Some, None, Result, Ok, Err}
+use Rattle.std.specs.Prelude.{ℕ, ◌≡◌, ◌+◌, ◌^◌, ◌<◌, ◌==◌, ◌&&◌, nat_lt, Bool, true, false, not, if◌then◌else◌, List, [], ◌∷◌, ◌++◌, length, codes, Option, Some, None, Result, Ok, Err}
 use Rattle.std.specs.Int.{from_be_bytes, w64}
 use Rattle.std.specs.Option.{option_and_then, option_map, option_map_or}
 use Rattle.std.specs.Str.{bytes_eq}
-use Rattle.std.specs.Str.Parse.{digits_value}
 use Rattle.hex.specs.Hex.{IsBytes, decode_sized, encode_lower}
 use Rattle.hex.specs.declared.error.FromHexError.{FromHexError}
 use Rattle.kl_base.specs.Names.{name_fault}
@@ -11,6 +10,7 @@ use Rattle.kl_base.specs.declared.class.Class.{Class}
 use Rattle.kl_base.specs.declared.class.Class.TheVariants.{Text, Rodata, Rwdata, Bss}
 use Rattle.kl_base.specs.declared.name.NameFault.{NameFault}
 use Rattle.kl_text.specs.Lines.{after_prefix, cut}
+use Rattle.kl_text.specs.Numbers.{number_of}
 use Rattle.kl_model.specs.Areas.{class_number}
 use Rattle.kl_model.specs.declared.area.TheConstants as area
 use Rattle.kl_model.specs.declared.graph.PieceId.{PieceId}
@@ -33,10 +33,6 @@ bytes_of count word = spelled word (decode_sized word count)
 -- the address or size of a word
 unfoldable pub address_of : List ℕ → Option ℕ
 address_of word = option_and_then (λ digits. option_map (λ bytes. from_be_bytes w64 bytes) (bytes_of 8 digits)) (after_prefix (codes "0x") word)
-
--- the number of a word: what its digits say, where that is spelled so
-unfoldable pub number_of : List ℕ → Option ℕ
-number_of word = let n = digits_value 10 word in if nat_lt n (2 ^ 32) && bytes_eq (decimal n) word then Some n else None
 
 -- two addresses or sizes
 unfoldable pub sizes_of : List ℕ → Option (ℕ × ℕ)

@@ -3,10 +3,10 @@ ghost use Rattle.std.specs.Prelude.{◌≡◌, codes};
 ghost use Rattle.std.specs.Option.{option_map};
 ghost use Rattle.kl_map.specs.Reading.{address_of, area_of, bytes_of, common_of, gap_of, head_of, id_of, name_of, placed_of, section_of};
 
-use crate::words::{address_of, class_of, is_area_name, name_of, number_of, seed_of, sizes_of};
+use crate::words::{address_of, class_of, is_area_name, name_of, seed_of, sizes_of};
 use kl_base::Name;
 use kl_model::{AreaAt, PieceId, Placed};
-use kl_text::{first_line, split};
+use kl_text::{first_line, number_of, split};
 
 /// The image's name, and what follows its line.
 pub(crate) fn output_line(text: &[u8]) -> Option<(Name, &[u8])>

@@ -2,7 +2,7 @@
 ghost use Rattle.std.specs.Prelude.{ℕ, ◌≡◌, ◌<◌, ◌^◌, decimal, Some};
 ghost use Rattle.std.specs.Str.{bytes_eq};
 ghost use Rattle.kl_map.specs.MapText.{area_name};
-ghost use Rattle.kl_map.specs.Reading.{address_of, bytes_of, class_of, name_of, number_of, sizes_of};
+ghost use Rattle.kl_map.specs.Reading.{address_of, bytes_of, class_of, name_of, sizes_of};
 
 use itoa::Buffer;
 use kl_base::{Class, Name};
@@ -66,29 +66,6 @@ pub(crate) fn sizes_of(text: &[u8]) -> Option<(u64, u64)>
 {
     let (first, second) = split(text, b' ')?;
     Some((address_of(first)?, address_of(second)?))
-}
-
-/// The number of a word: decimal, without leading zeros and below 2^32.
-#[tactic(auto, unfolding(crate::specs::Reading::number_of))]
-pub(crate) fn number_of(word: &[u8]) -> Option<u32>
-    ensures { result ≡ number_of word.now }
-{
-    let number = parsed(word)?;
-    if Buffer::new().format(number).as_bytes() == word {
-        Some(number)
-    } else {
-        None
-    }
-}
-
-/// What the word's digits say: of a number as it is printed, that number.
-fn parsed(word: &[u8]) -> Option<u32>
-    ensures { (n : ℕ) → n < 2 ^ 32 → decimal n ≡ word.now → result ≡ Some n }
-{
-    match str::from_utf8(word) {
-        Ok(digits) => digits.parse().ok(),
-        Err(_) => None,
-    }
 }
 
 /// Whether the word is the name of the area of this number.

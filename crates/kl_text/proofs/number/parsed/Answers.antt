@@ -1,7 +1,7 @@
 use Rattle.std.proofs.Common.{◌∙◌, sym, ap}
 use Rattle.std.specs.Result.{result_ok}
-use Rattle.kl_map.proofs.Spelled.{is_text, parsed_again}
-use Rattle.kl_map.proofs.words.parsed.Goals as goal
+use Rattle.kl_text.proofs.Numerals.{is_text, parsed_again}
+use Rattle.kl_text.proofs.number.parsed.Goals as goal
 
 pub returns-in-Ok : goal.returns-in-Ok
 returns-in-Ok c = λ n fits e.
