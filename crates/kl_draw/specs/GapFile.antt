@@ -34,20 +34,20 @@ headers_place z = names_place z + (length section_names + length padding)
 abbrev pub null_section : Shdr
 null_section = record { name = 0; kind = SHT_NULL; flags = 0; addr = 0; offset = 0; size = 0; link = 0; info = 0; addralign = 0; entsize = 0 }
 
--- the header of a gap, by the place of its name, its type, its flags, its place and its size
-abbrev pub gap_section : ℕ → ℕ → ℕ → ℕ → ℕ → Shdr
-gap_section name kind flags place size =
-    record null_section { name = name; kind = kind; flags = flags; offset = place; size = size; addralign = 16 }
+-- the header of a section, by the place of its name, its type, its flags, its place, its size and its alignment
+abbrev pub bytes_section : ℕ → ℕ → ℕ → ℕ → ℕ → ℕ → Shdr
+bytes_section name kind flags place size align =
+    record null_section { name = name; kind = kind; flags = flags; offset = place; size = size; addralign = align }
 
 -- the headers of the sections `.text`, `.rodata`, `.data`, `.bss` and `.shstrtab`; `.bss` has no bytes in the file
 abbrev pub gap_sections : Gaps → List Shdr
 gap_sections z =
     null_section
-    ∷ gap_section 1 SHT_PROGBITS (SHF_ALLOC + SHF_EXECINSTR) ehdr.SIZE z.text
-    ∷ gap_section 7 SHT_PROGBITS SHF_ALLOC (rodata_place z) z.rodata
-    ∷ gap_section 15 SHT_PROGBITS (SHF_ALLOC + SHF_WRITE) (rwdata_place z) z.rwdata
-    ∷ gap_section 21 SHT_NOBITS (SHF_ALLOC + SHF_WRITE) (names_place z) z.bss
-    ∷ record null_section { name = 26; kind = SHT_STRTAB; offset = names_place z; size = length section_names; addralign = 1 } ∷ []
+    ∷ bytes_section 1 SHT_PROGBITS (SHF_ALLOC + SHF_EXECINSTR) ehdr.SIZE z.text 16
+    ∷ bytes_section 7 SHT_PROGBITS SHF_ALLOC (rodata_place z) z.rodata 16
+    ∷ bytes_section 15 SHT_PROGBITS (SHF_ALLOC + SHF_WRITE) (rwdata_place z) z.rwdata 16
+    ∷ bytes_section 21 SHT_NOBITS (SHF_ALLOC + SHF_WRITE) (names_place z) z.bss 16
+    ∷ bytes_section 26 SHT_STRTAB 0 (names_place z) (length section_names) 1 ∷ []
 
 -- the file header of a relocatable object, by the place of its section headers, their number, and the number of their names' table
 abbrev pub relocatable_head : ℕ → ℕ → ℕ → Ehdr

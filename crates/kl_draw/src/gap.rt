@@ -3,7 +3,9 @@ ghost use Rattle.std.specs.Prelude.{◌≡◌, IfOk};
 ghost use Rattle.kl_draw.specs.GapFile.{gap_file, gap_sections};
 ghost use Rattle.kl_model.specs.Fit.{AreGaps};
 
-use crate::record::{NULL_SECTION, head_bytes, push_bytes, push_sections, relocatable_head};
+use crate::record::{
+    NULL_SECTION, bytes_section, head_bytes, push_bytes, push_sections, relocatable_head,
+};
 use kl_base::NoMemory;
 use kl_elf::abi::{SHF_ALLOC, SHF_EXECINSTR, SHF_WRITE, SHT_NOBITS, SHT_PROGBITS, SHT_STRTAB};
 use kl_elf::{Ehdr, Shdr};
@@ -28,45 +30,26 @@ fn sections(gaps: &Gaps) -> [Shdr; 6]
     requires { AreGaps gaps.now }
     ensures { result ≡ gap_sections gaps.now }
 {
-    let text = Shdr {
-        name: 1,
-        kind: SHT_PROGBITS,
-        flags: SHF_ALLOC | SHF_EXECINSTR,
-        offset: Ehdr::SIZE as u64,
-        size: gaps.text,
-        addralign: 16,
-        ..NULL_SECTION
-    };
-    let rodata = Shdr {
-        name: 7,
-        flags: SHF_ALLOC,
-        offset: text.offset + gaps.text,
-        size: gaps.rodata,
-        ..text
-    };
-    let rwdata = Shdr {
-        name: 15,
-        flags: SHF_ALLOC | SHF_WRITE,
-        offset: rodata.offset + gaps.rodata,
-        size: gaps.rwdata,
-        ..text
-    };
-    let bss = Shdr {
-        name: 21,
-        kind: SHT_NOBITS,
-        offset: rwdata.offset + gaps.rwdata,
-        size: gaps.bss,
-        ..rwdata
-    };
-    let names = Shdr {
-        name: 26,
-        kind: SHT_STRTAB,
-        offset: bss.offset,
-        size: NAMES_SIZE,
-        addralign: 1,
-        ..NULL_SECTION
-    };
-    [NULL_SECTION, text, rodata, rwdata, bss, names]
+    let rodata = Ehdr::SIZE as u64 + gaps.text;
+    let rwdata = rodata + gaps.rodata;
+    let names = rwdata + gaps.rwdata;
+    let executable = SHF_ALLOC | SHF_EXECINSTR;
+    let writable = SHF_ALLOC | SHF_WRITE;
+    [
+        NULL_SECTION,
+        bytes_section(
+            1,
+            SHT_PROGBITS,
+            executable,
+            Ehdr::SIZE as u64,
+            gaps.text,
+            16,
+        ),
+        bytes_section(7, SHT_PROGBITS, SHF_ALLOC, rodata, gaps.rodata, 16),
+        bytes_section(15, SHT_PROGBITS, writable, rwdata, gaps.rwdata, 16),
+        bytes_section(21, SHT_NOBITS, writable, names, gaps.bss, 16),
+        bytes_section(26, SHT_STRTAB, 0, names, NAMES_SIZE, 1),
+    ]
 }
 
 /// The gap object of a kernel's kit: a relocatable object (gABI, `ET_REL`) whose sections `.text`, `.rodata`, `.data` and `.bss` are the

@@ -1,7 +1,7 @@
 // Records of an ELF file as bytes.
 ghost use Rattle.std.specs.Prelude.{◌≡◌, ◌≤◌, ◌++◌, flat_map, length, replicate, OnOk};
 ghost use Rattle.kl_base.specs.declared.limits.TheConstants.{SIZE_LIMIT};
-ghost use Rattle.kl_draw.specs.GapFile.{relocatable_head};
+ghost use Rattle.kl_draw.specs.GapFile.{bytes_section, relocatable_head};
 ghost use Rattle.kl_model.specs.Written.{ehdr_bytes, shdr_bytes};
 
 use kl_base::NoMemory;
@@ -21,6 +21,29 @@ pub const NULL_SECTION: Shdr = Shdr {
     addralign: 0,
     entsize: 0,
 };
+
+/// The header of a section (gABI, `Elf64_Shdr`): the place of its name, its type, its flags, its place, its size and its alignment, in
+/// bytes.
+pub fn bytes_section(
+    name: u32,
+    kind: u32,
+    flags: u64,
+    offset: u64,
+    size: u64,
+    addralign: u64,
+) -> Shdr
+    ensures { result ≡ bytes_section name kind flags offset size addralign }
+{
+    Shdr {
+        name,
+        kind,
+        flags,
+        offset,
+        size,
+        addralign,
+        ..NULL_SECTION
+    }
+}
 
 /// The file header of a relocatable object (gABI, `ET_REL`) for x86-64: its section headers stand at `headers`, there are `count` of them,
 /// and that of number `names` is the string table of their names.

@@ -1,7 +1,10 @@
 // A kit, linked under a seed.
 ghost use Rattle.std.specs.Prelude.{◌≡◌, ◌≤◌, ◌<◌, ◌-◌, ◌^◌, ◌⊎◌, None, Some, length, map, IfOk, IfErr, OnOk};
 ghost use Rattle.sha2.specs.Sha256.{sha256 as digest_of};
+ghost use Rattle.kl_model.specs.Graphs.{graph};
 ghost use Rattle.kl_model.specs.Orders.{drawn_count};
+ghost use Rattle.kl_model.specs.Roomy.{IsRoomy};
+ghost use Rattle.kl_kernel.specs.RoomyLinks.{IsNoSpanOrRange};
 ghost use Rattle.kl_link.specs.Links.{AreLinked, IsLinkable, fault_of, report_of};
 
 use crate::report::Report;
@@ -64,7 +67,7 @@ fn report(linked: &Linked) -> Report
 ///
 /// # Errors
 ///
-/// The first fault of the kit under that order and those gaps, and `NoMemory`.
+/// The first fault of the kit under that order and those gaps, and `NoMemory`. A roomy kit has neither `Span` nor `Range`, under any seed.
 pub fn link_kit(
     alloc: Global,
     kit: &Kit,
@@ -76,6 +79,7 @@ pub fn link_kit(
     ensures told { IfOk result (λ l. l.report ≡ report_of kit.now inputs.now l.image.items) }
     ensures sound { OnOk result (fault_of seed.now kit.now inputs.now ≡ None) }
     ensures err { IfErr result (λ e. (e ≡ LinkFault.NoMemory) ⊎ (fault_of seed.now kit.now inputs.now ≡ Some e)) }
+    ensures roomy { IfErr result (λ e. IsRoomy kit.now (graph kit.now inputs.now) → IsNoSpanOrRange e) }
 {
     let label = kit.output.bytes();
     let count = count_drawn(inputs) as u32;
