@@ -18,7 +18,7 @@ use Rattle.kl_rel.specs.Relocations.{fields_in, fields_of, is_rel, is_rela, rela
 use Rattle.kl_rel.specs.SectionGroups.{groups_flaw, groups_in}
 use Rattle.kl_rel.proofs.KnownRecords.{IsSmallEhdr, IsSmallShdr, behind, bytes_there, string_there, text_there}
 use Rattle.kl_rel.proofs.KnownFiles.{EachFrom, IsFile, known_file, shstrndx_is, head_passes, table_passes, ranges_pass, sections_pass, other_passes, allocated_passes, fields_listed, flags_pass, form_passes, HasNoSymbols, no_flaw, no_groups, no_relocation, no_symbols, nothing_of, object_is, relocations_pass, section_listed, sections_listed, tables_are}
-use Rattle.kl_draw.specs.GapFile.{gap_file, gap_section, gap_sections, headers_place, names_place, null_section, padding, relocatable_head, rodata_place, rwdata_place, section_names}
+use Rattle.kl_draw.specs.GapFile.{bytes_section, gap_file, gap_sections, headers_place, names_place, null_section, padding, relocatable_head, rodata_place, rwdata_place, section_names}
 use Rattle.kl_elf.specs.declared.abi.TheConstants.{SHF_ALLOC, SHF_COMPRESSED, SHF_EXECINSTR, SHF_TLS, SHF_WRITE, SHT_NOBITS, SHT_PROGBITS, SHT_STRTAB}
 use Rattle.kl_elf.specs.declared.records.TheConstants.Ehdr as ehdr
 use Rattle.kl_elf.specs.declared.records.TheConstants.Shdr as shdr
@@ -33,13 +33,13 @@ module _ (z : Gaps) (are : AreGaps z) where
   h = relocatable_head (headers_place z) 6 5
 
   abbrev names_header : Shdr
-  names_header = record null_section { name = 26; kind = SHT_STRTAB; offset = names_place z; size = length section_names; addralign = 1 }
+  names_header = bytes_section 26 SHT_STRTAB 0 (names_place z) (length section_names) 1
 
   abbrev ss : List Shdr
-  ss = gap_section 1 SHT_PROGBITS (SHF_ALLOC + SHF_EXECINSTR) ehdr.SIZE z.text
-      ∷ gap_section 7 SHT_PROGBITS SHF_ALLOC (rodata_place z) z.rodata
-      ∷ gap_section 15 SHT_PROGBITS (SHF_ALLOC + SHF_WRITE) (rwdata_place z) z.rwdata
-      ∷ gap_section 21 SHT_NOBITS (SHF_ALLOC + SHF_WRITE) (names_place z) z.bss
+  ss = bytes_section 1 SHT_PROGBITS (SHF_ALLOC + SHF_EXECINSTR) ehdr.SIZE z.text 16
+      ∷ bytes_section 7 SHT_PROGBITS SHF_ALLOC (rodata_place z) z.rodata 16
+      ∷ bytes_section 15 SHT_PROGBITS (SHF_ALLOC + SHF_WRITE) (rwdata_place z) z.rwdata 16
+      ∷ bytes_section 21 SHT_NOBITS (SHF_ALLOC + SHF_WRITE) (names_place z) z.bss 16
       ∷ names_header ∷ []
 
   -- the file from its parts on
@@ -166,7 +166,7 @@ module _ (z : Gaps) (are : AreGaps z) where
   -- the sections of the gaps
   module _ (p n kind flags place size : ℕ) (found : position (λ c. c == 0) (drop p section_names) ≡ Some n) (low : p ≤ 36) (inside : n ≤ length (drop p section_names)) where
     abbrev section_is : Shdr
-    section_is = gap_section p kind flags place size
+    section_is = bytes_section p kind flags place size 16
 
     abbrev name_is : Range
     name_is = record { at = names_place z + p; len = n }

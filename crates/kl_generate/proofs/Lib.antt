@@ -7,5 +7,6 @@ pub mod MadeFaults
 pub mod MadeFit
 pub mod MadeLinked
 pub mod MadeRead
+pub mod OnlyMemory
 pub mod RecordBytes
 pub mod TablesRead

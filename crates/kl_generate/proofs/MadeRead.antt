@@ -30,7 +30,7 @@ use Rattle.kl_rel.specs.Relocations.{fields_before, fields_in, fields_of, is_rel
 use Rattle.kl_rel.specs.SectionGroups.{groups_flaw, groups_in}
 use Rattle.kl_rel.proofs.KnownRecords.{IsSmallEhdr, IsSmallRela, IsSmallShdr, IsSmallSym, behind, read_rela, read_sym, string_there, text_there}
 use Rattle.kl_rel.proofs.KnownFiles.{EachFrom, HasTable, IsFile, known_file, shnum_is, shstrndx_is, head_passes, table_passes, ranges_pass, sections_pass, other_passes, allocated_passes, fields_listed, flags_pass, form_passes, no_flaw, no_groups, no_relocation, object_is, one_table, relocations_pass, section_listed, sections_listed, tables_are}
-use Rattle.kl_draw.specs.GapFile.{null_section, relocatable_head}
+use Rattle.kl_draw.specs.GapFile.{bytes_section, null_section, relocatable_head}
 use Rattle.kl_elf.specs.declared.abi.TheConstants.{SHF_ALLOC, SHF_COMPRESSED, SHF_EXECINSTR, SHF_TLS, SHF_WRITE, SHN_UNDEF, SHT_PROGBITS, STT_FUNC, STT_NOTYPE}
 use Rattle.kl_elf.specs.declared.records.TheConstants.Ehdr as ehdr
 use Rattle.kl_elf.specs.declared.records.TheConstants.Rela as rela
@@ -40,7 +40,7 @@ use Rattle.kl_model.specs.declared.area.TheConstants as area
 use Rattle.kl_generate.specs.declared.limits.TheConstants.{MADE_LIMIT}
 use Rattle.kl_generate.specs.declared.object.TheConstants as made
 use Rattle.kl_generate.specs.Made.{IsMadeInput, IsMadeSection, IsMadeSymbol, callee, made_call, made_name, made_word, text_size}
-use Rattle.kl_generate.specs.MadeFile.{bytes_section, callee_name, callee_symbol, data_entries_place, data_entries_section, data_entry, data_place, data_section, data_size, headers_place, made_file, names_place, names_section, own_symbol, padding, section_names, sections_from_one, strings, strings_place, strings_section, symbols_place, symbols_section, text, text_entries_place, text_entries_section, text_entry, text_section}
+use Rattle.kl_generate.specs.MadeFile.{callee_name, callee_symbol, data_entries_place, data_entries_section, data_entry, data_place, data_section, data_size, headers_place, made_file, names_place, names_section, own_symbol, padding, section_names, sections_from_one, strings, strings_place, strings_section, symbols_place, symbols_section, text, text_entries_place, text_entries_section, text_entry, text_section}
 use Rattle.kl_generate.specs.MadeRead.{IsMadeRead, MadeObjects, made_input}
 use Rattle.kl_generate.proofs.TablesRead.{HasNoZero, IsEntrySection, ended_text, one_entry_passes, one_field, symbol_listed, symbol_passes, symbols_listed, symbols_pass, three_symbols}
 

@@ -1,4 +1,5 @@
 pub mod GapRead
+pub mod Generated
 pub mod Made
 pub mod MadeFile
 pub mod MadeLinks

@@ -4,7 +4,7 @@ use Rattle.kl_elf.specs.declared.records.Shdr.{Shdr}
 use Rattle.kl_elf.specs.declared.records.Sym.{Sym}
 use Rattle.kl_elf.specs.declared.records.Rela.{Rela}
 use Rattle.kl_model.specs.Written.{ehdr_bytes, shdr_bytes, sym_bytes, rela_bytes}
-use Rattle.kl_draw.specs.GapFile.{null_section, relocatable_head}
+use Rattle.kl_draw.specs.GapFile.{bytes_section, null_section, relocatable_head}
 use Rattle.kl_generate.specs.Made.{callee, made_name, text_size}
 use Rattle.kl_elf.specs.declared.abi.TheConstants.{R_X86_64_64, R_X86_64_PLT32, SHF_ALLOC, SHF_EXECINSTR, SHF_INFO_LINK, SHF_WRITE, SHN_UNDEF, SHT_PROGBITS, SHT_RELA, SHT_STRTAB, SHT_SYMTAB, STB_GLOBAL, STT_FUNC, STT_NOTYPE, STV_DEFAULT}
 use Rattle.kl_elf.specs.declared.records.TheConstants.Ehdr as ehdr
@@ -59,11 +59,6 @@ headers_place k = names_place k + names_room
 
 abbrev pub strings_place : ℕ → ℕ
 strings_place k = headers_place k + shdr.SIZE * 8
-
--- the header of a section, by the place of its name, its type, its flags, its place, its size and its alignment
-abbrev pub bytes_section : ℕ → ℕ → ℕ → ℕ → ℕ → ℕ → Shdr
-bytes_section name kind flags place size align =
-    record null_section { name = name; kind = kind; flags = flags; offset = place; size = size; addralign = align }
 
 -- of a section of one relocation entry, which changes a section
 abbrev pub entry_section : ℕ → ℕ → ℕ → Shdr

@@ -51,6 +51,7 @@ fn input_list(alloc: Global, count: u32) -> Result<Vec<Input>, NoMemory>
 pub fn made_inputs(alloc: Global, count: u32) -> Result<Vec<Input>, NoMemory>
     requires some { 1 ≤ count }
     requires few { count ≤ MADE_LIMIT }
+    ensures inputs { IfOk result (λ v. v.items ≡ made_inputs count) }
     ensures made { IfOk result (λ v. AreMade count v.items) }
     ensures fit { IfOk result (λ v. AreFit v.items) }
 {

@@ -3,6 +3,7 @@
 #![tactic(auto)]
 
 mod gap_law;
+mod generated;
 mod input;
 mod kit;
 mod laws;
@@ -12,6 +13,7 @@ mod object;
 mod record;
 
 pub use gap_law::gap_objects;
+pub use generated::generate;
 pub use input::made_inputs;
 pub use kit::made_kit;
 pub use laws::{made_graph, made_links};

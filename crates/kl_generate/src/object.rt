@@ -2,13 +2,15 @@
 ghost use Rattle.std.specs.Prelude.{◌≡◌, ◌+◌, ◌<◌, ◌≤◌, ◌++◌, ◌∷◌, [], length, vec_len, IfOk, OnOk};
 ghost use Rattle.kl_draw.specs.GapFile.{null_section};
 ghost use Rattle.kl_generate.specs.Made.{callee, made_name, text_size};
-ghost use Rattle.kl_generate.specs.MadeFile.{bytes_section, callee_name, contents, entry_section, headers_place, made_file, own_symbol, sections_from_one, symbol_section, symbols_bytes, text, undefined_symbol};
+ghost use Rattle.kl_generate.specs.MadeFile.{callee_name, contents, entry_section, headers_place, made_file, own_symbol, sections_from_one, symbol_section, symbols_bytes, text, undefined_symbol};
 ghost use Rattle.kl_generate.specs.declared.limits.TheConstants.{MADE_LIMIT};
 
 use crate::record::{entry_bytes, symbol_bytes};
 use itoa::Buffer;
 use kl_base::NoMemory;
-use kl_draw::record::{NULL_SECTION, head_bytes, push_bytes, push_sections, relocatable_head};
+use kl_draw::record::{
+    NULL_SECTION, bytes_section, head_bytes, push_bytes, push_sections, relocatable_head,
+};
 use kl_elf::abi::{
     R_X86_64_64, R_X86_64_PLT32, SHF_ALLOC, SHF_EXECINSTR, SHF_INFO_LINK, SHF_WRITE, SHN_UNDEF,
     SHT_PROGBITS, SHT_RELA, SHT_STRTAB, SHT_SYMTAB, STB_GLOBAL, STT_FUNC, STT_NOTYPE, STV_DEFAULT,
@@ -119,22 +121,6 @@ fn headers_place(number: u32) -> u64
         + NAMES.len() as u64
 }
 
-/// The header of a section (gABI, `Elf64_Shdr`): the place of its name, its type, its flags, its place, its size and its alignment, in
-/// bytes.
-fn section(name: u32, kind: u32, flags: u64, offset: u64, size: u64, addralign: u64) -> Shdr
-    ensures { result ≡ bytes_section name kind flags offset size addralign }
-{
-    Shdr {
-        name,
-        kind,
-        flags,
-        offset,
-        size,
-        addralign,
-        ..NULL_SECTION
-    }
-}
-
 /// The header of a section of one relocation entry, which changes another section: the place of its name, its place and the number of
 /// the other.
 fn entry_section(name: u32, offset: u64, changes: u32) -> Shdr
@@ -144,7 +130,7 @@ fn entry_section(name: u32, offset: u64, changes: u32) -> Shdr
         link: SYMBOLS_NUMBER,
         info: changes,
         entsize: ENTRY_SIZE,
-        ..section(name, SHT_RELA, SHF_INFO_LINK, offset, ENTRY_SIZE, 8)
+        ..bytes_section(name, SHT_RELA, SHF_INFO_LINK, offset, ENTRY_SIZE, 8)
     }
 }
 
@@ -157,7 +143,7 @@ fn symbols_section(offset: u64) -> Shdr
         link: STRINGS_NUMBER,
         info: 1,
         entsize: size,
-        ..section(35, SHT_SYMTAB, 0, offset, SYMBOL_COUNT * size, 8)
+        ..bytes_section(35, SHT_SYMTAB, 0, offset, SYMBOL_COUNT * size, 8)
     }
 }
 
@@ -176,13 +162,13 @@ fn sections(number: u32, strings: &[u8]) -> [Shdr; 8]
     let behind = headers + Shdr::SIZE as u64 * u64::from(SECTION_COUNT);
     [
         NULL_SECTION,
-        section(1, SHT_PROGBITS, SHF_ALLOC | SHF_EXECINSTR, text, size, 16),
-        section(7, SHT_PROGBITS, SHF_ALLOC | SHF_WRITE, data, DATA_SIZE, 8),
+        bytes_section(1, SHT_PROGBITS, SHF_ALLOC | SHF_EXECINSTR, text, size, 16),
+        bytes_section(7, SHT_PROGBITS, SHF_ALLOC | SHF_WRITE, data, DATA_SIZE, 8),
         entry_section(13, text_entries, 1),
         entry_section(24, data_entries, 2),
         symbols_section(symbols),
-        section(43, SHT_STRTAB, 0, behind, strings.len() as u64, 1),
-        section(51, SHT_STRTAB, 0, names, NAMES_SIZE, 1),
+        bytes_section(43, SHT_STRTAB, 0, behind, strings.len() as u64, 1),
+        bytes_section(51, SHT_STRTAB, 0, names, NAMES_SIZE, 1),
     ]
 }
 
