@@ -1,5 +1,5 @@
 -- How a command ends, and what is written of it.
-use Rattle.std.proofs.Common.{◌≡◌, ◌≢◌, ℕ, ◌≤◌, List, length, refl, arith, Option, Bool, true, false, inl, inr}
+use Rattle.std.proofs.Common.{◌≡◌, ◌≢◌, ℕ, ◌≤◌, List, length, refl, arith, Option, Bool, true, false, inl, inr, subst, sym}
 use Rattle.std.specs.Prelude.{Some, None, Result, Ok, Err, IfOk, IfErr, OnOk, is_ok}
 use Rattle.std.specs.Option.{ForSome}
 use Rattle.std.proofs.lemmas.List.{take_all}
@@ -7,11 +7,14 @@ use Rattle.kl_store.specs.Names.{Names}
 use Rattle.kl_store.specs.Meaning.{Meaning}
 use Rattle.kl_store.specs.Outside.{Blocks, Taken, Writes}
 use Rattle.kl_store.specs.Calls.{HasCause}
+use Rattle.kl_jobs.specs.Refusals.{EndsUnder}
 use Rattle.kl_jobs.specs.declared.cause.Cause.{Cause}
-use Rattle.kl_jobs.specs.declared.cause.Cause.TheVariants.{Done, Sink}
-use Rattle.kl_cli.specs.Answers.{Answers, IsAnswer, IsCauseOf, IsDone, IsDoneAnswer, IsNoDone, Says, cause_of, lines_of}
-use Rattle.kl_cli.specs.Commands.{request_of}
+use Rattle.kl_jobs.specs.declared.cause.Cause.TheVariants.{Done, NoMemory, Sink}
+use Rattle.kl_cli.specs.Answers.{Answers, IsAnswer, IsCauseOf, IsDone, IsDoneAnswer, IsDoneInMemory, IsNoDone, Says, cause_of, early, late, lines_of}
+use Rattle.kl_cli.specs.Commands.{HasSeed, IsRequest, request_of}
 use Rattle.kl_cli.specs.Done.{Finishes}
+use Rattle.kl_cli.specs.declared.command.Command.{Command}
+use Rattle.kl_cli.specs.declared.command.Command.TheVariants.{Generate}
 use Rattle.kl_cli.specs.declared.command.Request.{Request}
 use Rattle.kl_cli.specs.declared.outcome.Outcome.{Outcome}
 
@@ -30,6 +33,22 @@ cause_is : (ended : Result Outcome Cause) (told : Bool) → IsCauseOf ended (cau
 cause_is (Ok o) true = inl refl
 cause_is (Ok o) false = inr refl
 cause_is (Err e) told = refl
+
+-- a command that works in memory alone
+pub done_in_memory : (ended : Result Outcome Cause) (told : Bool) → IfErr ended (λ c. c ≡ NoMemory) → IsDoneInMemory (cause_of ended told)
+done_in_memory (Ok o) told h = inl (cause_is (Ok o) told)
+done_in_memory (Err e) told h = inr h
+
+-- such a command has its own seed, and nothing stands against it
+ends_with : (n : ℕ) (given : Option (List ℕ)) (b : Blocks) (m : Names) → HasSeed (Generate n) given
+    → EndsUnder given b b (early m (Generate n)) (late m (Generate n)) None
+ends_with n None b m has = cc
+ends_with n (Some seed) b m has = record { seed = seed; drawn = (refl, record { left = refl }); none_early = refl; end_is = refl }
+
+pub ends_in_memory : (c : Command) (n : ℕ) (given : Option (List ℕ)) (b : Blocks) (names : Option Names) → c ≡ Generate n → IsRequest c given
+    → ForSome names (λ m. EndsUnder given b b (early m c) (late m c) None)
+ends_in_memory c n given b names is asked = λ m told.
+    subst (λ c. EndsUnder given b b (early m c) (late m c) None) (sym is) (ends_with n given b m (subst (λ c. HasSeed c given) is asked.1))
 
 not_done : (ended : Result Outcome Cause) → IfErr ended IsNoDone → cause_of ended false ≢ Done
 not_done (Ok o) refused is = cc

@@ -1,19 +1,14 @@
 -- Words that are a command.
 use Rattle.std.proofs.Common.{◌≡◌, ℕ, ◌<◌, Bool, true, false, List, [], ◌∷◌, length, refl, arith}
-use Rattle.std.specs.Prelude.{None, Vec, codes}
+use Rattle.std.specs.Prelude.{None, Vec}
 use Rattle.std.specs.declared.alloc.Global.{Global}
-use Rattle.std.specs.Str.{bytes_eq}
 use Rattle.std.proofs.lemmas.Bool.{lt-leb}
 use Rattle.kl_cli.specs.Answers.{texts}
-use Rattle.kl_cli.specs.Commands.{command_of, four_words, two_words}
+use Rattle.kl_cli.specs.Commands.{folder_of, four_words, two_words}
 
 -- a folder's name isn't longer
-pub long_folder : (word dir : List ℕ) → 127 < length dir → None ≡ command_of word dir
-long_folder word dir h = go (bytes_eq word (codes "link")) refl
-  where
-    go : (b : Bool) → bytes_eq word (codes "link") ≡ b → None ≡ command_of word dir
-    go true e = rw (e, lt-leb (length dir) 127 h) refl
-    go false e = rw e refl
+pub long_folder : (dir : List ℕ) → 127 < length dir → None ≡ folder_of dir
+long_folder dir h = rw (lt-leb (length dir) 127 h) refl
 
 pub not_two : (words : List (Vec ℕ Global)) → (length words ≡ 2 → ⊥) → None ≡ two_words (texts words)
 not_two [] n = refl

@@ -12,14 +12,14 @@ use Rattle.kl_jobs.specs.Refusals.{EndsUnder, IsOutsideJob, late_refusal}
 use Rattle.kl_jobs.specs.declared.cause.Cause.{Cause}
 use Rattle.kl_jobs.specs.declared.cause.Cause.TheVariants.{Done, Usage, NoMemory, Store, Entropy, Sink, NotYet}
 use Rattle.kl_jobs.specs.declared.cause.Cause.TheVariants as cause
-use Rattle.kl_lines.specs.Lines.{cause_line, link_line}
+use Rattle.kl_lines.specs.Lines.{cause_line, generate_line, link_line}
 use Rattle.kl_cli.specs.Commands.{request_of}
 use Rattle.kl_cli.specs.Done.{Finishes}
 use Rattle.kl_cli.specs.declared.command.Command.{Command}
-use Rattle.kl_cli.specs.declared.command.Command.TheVariants.{Link}
+use Rattle.kl_cli.specs.declared.command.Command.TheVariants.{Link, Generate}
 use Rattle.kl_cli.specs.declared.command.Request.{Request}
 use Rattle.kl_cli.specs.declared.outcome.Outcome.{Outcome}
-use Rattle.kl_cli.specs.declared.outcome.Outcome.TheVariants.{Linked}
+use Rattle.kl_cli.specs.declared.outcome.Outcome.TheVariants.{Linked, Generated}
 
 -- the status of each cause
 abbrev pub status_of : Cause → ℕ
@@ -37,9 +37,11 @@ status_of NotYet = 19
 -- THE FIRST REFUSAL that stands in the names before a seed is asked for, and the first that stands behind it, under a seed
 abbrev pub early : Names → Command → Option Cause
 early m (Link dir) = text_refusal m dir
+early m (Generate n) = None
 
 abbrev pub late : Names → Command → List ℕ → Option Cause
 late m (Link dir) seed = late_refusal m dir seed
+late m (Generate n) seed = None
 
 -- all was done, whether or not the sink took the line that says so
 abbrev pub IsDone : Cause → Type 0
@@ -73,6 +75,10 @@ IsNoDone Done = ⊥
 IsNoDone Sink = ⊥
 IsNoDone _ = Unit {0}
 
+-- a command that works in memory alone ends well, or for want of memory
+abbrev pub IsDoneInMemory : Cause → Type 0
+IsDoneInMemory c = IsDone c ⊎ (c ≡ NoMemory)
+
 -- where the store tells its names, that is so of the names at the start
 abbrev pub Answers : List (List ℕ) → Blocks → Blocks → Meaning → Cause → Type 0
 Answers words b0 b1 before c = ForSome before.names (λ m. IsAnswer (request_of words) b0 b1 m c)
@@ -93,6 +99,7 @@ texts words = map (λ w. w.items) words
 -- the lines of how a command ended before they were written
 abbrev pub lines_of : Result Outcome Cause → List ℕ
 lines_of (Ok (Linked dir report)) = link_line dir report
+lines_of (Ok (Generated count report)) = generate_line count report
 lines_of (Err c) = cause_line c
 
 -- the cause that is answered of it

@@ -7,4 +7,6 @@ use kl_link::Report;
 pub enum Outcome {
     /// The kit of a folder was linked there.
     Linked(Name, Report),
+    /// The kit of so many objects was made and linked in memory.
+    Generated(u32, Report),
 }

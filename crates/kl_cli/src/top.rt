@@ -7,22 +7,24 @@ ghost use Rattle.kl_store.specs.Images.{LeavesOfDisk};
 ghost use Rattle.kl_store.specs.Outside.{Writes};
 ghost use Rattle.kl_jobs.specs.Refusals.{EndsUnder, IsJobRefusal, RefusesJob};
 ghost use Rattle.kl_jobs.specs.Seeds.{Draws, NoneDrawn};
-ghost use Rattle.kl_cli.specs.Commands.{IsCommand, request_of};
-ghost use Rattle.kl_cli.specs.Answers.{Answers, IsDone, IsDoneAnswer, IsNoDone, MayChange, Says, cause_of, early, given_seed, late, lines_of, status_of, texts};
+ghost use Rattle.kl_cli.specs.Commands.{AsksForMemory, IsInMemory, IsRequest, request_of};
+ghost use Rattle.kl_cli.specs.Answers.{Answers, IsDone, IsDoneAnswer, IsDoneInMemory, IsNoDone, MayChange, Says, cause_of, early, given_seed, late, lines_of, status_of, texts};
 ghost use Rattle.kl_cli.specs.Done.{Does, Finishes};
 ghost use Rattle.kl_cli.specs.declared.outcome.Outcome.{Outcome};
 
 use crate::command::{Command, Request};
 use crate::exit::Exit;
 use crate::outcome::Outcome;
+use kl_generate::generate;
 use kl_jobs::{Cause, link_only};
-use kl_lines::{write_cause, write_link};
+use kl_lines::{write_cause, write_generate, write_link};
 use kl_store::{Entropy, Failed, Sink, Store};
 use std::alloc::Global;
 
 /// Does what the words ask for, and writes the line of it: `link DIR` links the kit in the folder `DIR` of the store, in the order and
 /// with the gaps that are drawn from a seed. With `--seed HEX` behind it that is the seed, without it the next block of the source of
-/// random bytes. The words don't name the program.
+/// random bytes. `generate N` makes the kit of a kernel of `N` objects in memory and links it, with zeros for a seed where none is given.
+/// The words don't name the program.
 pub fn run<S: Store, E: Entropy, K: Sink>(
     alloc: Global,
     words: &[Vec<u8>],
@@ -37,6 +39,7 @@ pub fn run<S: Store, E: Entropy, K: Sink>(
     ensures failed { result.cause ≡ Cause.Store → Rose (S.faults store.old) (S.faults store.new) }
     ensures entropy { result.cause ≡ Cause.Entropy → Rose (E.faults entropy.old) (E.faults entropy.new) }
     ensures sink { result.cause ≡ Cause.Sink → Rose (K.faults out.old) (K.faults out.new) }
+    ensures memory { AsksForMemory (request_of (texts words.now)) → IsDoneInMemory result.cause }
     ensures status { result.status ≡ status_of result.cause }
     ensures batches { result.batches ≡ 0 }
 
@@ -72,6 +75,7 @@ fn answer<S: Store, E: Entropy>(
         (λ m. IsDoneAnswer (request_of (texts words.now)) (E.meaning entropy.old) (E.meaning entropy.new) m)) }
     ensures refused { IfErr result (Answers (texts words.now) (E.meaning entropy.old) (E.meaning entropy.new) (S.meaning store.old)) }
     ensures refusal { IfErr result IsNoDone }
+    ensures memory { AsksForMemory (request_of (texts words.now)) → IfErr result (λ c. c ≡ Cause.NoMemory) }
     ensures failed { IsErrOf result Cause.Store → Rose (S.faults store.old) (S.faults store.new) }
     ensures draws { Draws (given_seed (request_of (texts words.now))) (E.meaning entropy.old) (E.meaning entropy.new) }
     ensures undrawn { IsErrOf result Cause.Entropy → NoneDrawn (given_seed (request_of (texts words.now))) (E.meaning entropy.old) (E.meaning entropy.new) }
@@ -104,6 +108,7 @@ fn tell<K: Sink>(out: &mut K, ended: &Result<Outcome, Cause>) -> Result<(), Fail
 {
     match ended {
         Ok(Outcome::Linked(dir, report)) => write_link(out, dir, report),
+        Ok(Outcome::Generated(count, report)) => write_generate(out, *count, report),
         Err(cause) => write_cause(out, cause),
     }
 }
@@ -115,13 +120,14 @@ fn execute<S: Store, E: Entropy>(
     store: &mut S,
     entropy: &mut E,
 ) -> Result<Outcome, Cause>
-    requires { IsCommand request.now.command }
+    requires { IsRequest request.now.command request.now.seed }
     ensures done { IfOk result (Does request.now.command request.now.seed (E.meaning entropy.old) (E.meaning entropy.new) (S.meaning store.old) (S.meaning store.new)) }
     ensures stands { OnOk result (ForSome (S.meaning store.old).names
         (λ m. EndsUnder request.now.seed (E.meaning entropy.old) (E.meaning entropy.new) (early m request.now.command) (late m request.now.command) None)) }
     ensures refused { IfErr result (RefusesJob request.now.seed (E.meaning entropy.old) (E.meaning entropy.new) (S.meaning store.old)
         (λ m. early m request.now.command) (λ m. late m request.now.command)) }
     ensures refusal { IfErr result IsJobRefusal }
+    ensures memory { IsInMemory request.now.command → IfErr result (λ c. c ≡ Cause.NoMemory) }
     ensures failed { IsErrOf result Cause.Store → Rose (S.faults store.old) (S.faults store.new) }
     ensures draws { Draws request.now.seed (E.meaning entropy.old) (E.meaning entropy.new) }
     ensures undrawn { IsErrOf result Cause.Entropy → NoneDrawn request.now.seed (E.meaning entropy.old) (E.meaning entropy.new) }
@@ -134,6 +140,10 @@ fn execute<S: Store, E: Entropy>(
         Command::Link(dir) => {
             let report = link_only(alloc, &dir, request.seed, store, entropy)?;
             Ok(Outcome::Linked(dir, report))
+        }
+        Command::Generate(count) => {
+            let report = generate(alloc, count, &request.seed.unwrap())?;
+            Ok(Outcome::Generated(count, report))
         }
     }
 }

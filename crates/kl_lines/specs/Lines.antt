@@ -23,6 +23,10 @@ report_line first then r =
 abbrev pub link_line : List ℕ → Report → List ℕ
 link_line dir r = report_line dir (codes " linked") r
 
+-- a kit of some objects was made in memory and linked
+abbrev pub generate_line : ℕ → Report → List ℕ
+generate_line count r = report_line (codes "generated ") (decimal count) r
+
 -- the number of a fault of a kit text, and its line, which is 0 for what is missing
 abbrev pub kit_fault_number : KitFault → ℕ
 kit_fault_number (kit.Byte l) = 1

@@ -7,4 +7,4 @@ mod pieces;
 mod report;
 
 pub use cause::write_cause;
-pub use report::write_link;
+pub use report::{write_generate, write_link};

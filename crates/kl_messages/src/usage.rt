@@ -1,17 +1,18 @@
 // Which of the words is wrong.
 use kl_base::{FILE_LIMIT, Name, NoMemory};
 use kl_explain::{Shown, tell_name};
+use kl_generate::MADE_LIMIT;
 use std::fmt::Write;
 
 /// The commands that come later.
-const LATER: [&[u8]; 4] = [b"reorder_kernel", b"reorder_libs", b"recover", b"generate"];
+const LATER: [&[u8]; 3] = [b"reorder_kernel", b"reorder_libs", b"recover"];
 
 /// The number of digits of a seed.
 const SEED_DIGITS: usize = 64;
 
 /// Whether a command works on the files of the system, and not on a folder that is named.
 pub fn is_of_system(word: &[u8]) -> bool {
-    LATER[..3].contains(&word)
+    LATER.contains(&word)
 }
 
 /// What is wrong with words that are no command.
@@ -23,44 +24,107 @@ pub fn tell_words(text: &mut String, words: &[Vec<u8>]) -> Result<(), NoMemory> 
         )?;
         return Ok(());
     };
+    match operand_of(command) {
+        Some(operand) => tell_operands(text, operand, rest),
+        None => tell_command(text, command),
+    }
+}
+
+/// What stands behind the name of a command.
+#[derive(Clone, Copy)]
+enum Operand {
+    /// The folder of a kit, behind `link`.
+    Folder,
+    /// A number of objects, behind `generate`.
+    Count,
+}
+
+impl Operand {
+    /// How it is told that the operand is missing.
+    fn missing(self) -> &'static str {
+        match self {
+            Operand::Folder => "'link' needs the folder of a kit, as in 'relink link /kit'",
+            Operand::Count => "'generate' needs a number of objects, as in 'relink generate 200'",
+        }
+    }
+
+    /// What may stand behind the command.
+    fn taken(self) -> &'static str {
+        match self {
+            Operand::Folder => "'link' takes one folder",
+            Operand::Count => "'generate' takes one number",
+        }
+    }
+}
+
+/// What stands behind a command that is there.
+fn operand_of(command: &[u8]) -> Option<Operand> {
+    if command == b"link".as_slice() {
+        Some(Operand::Folder)
+    } else if command == b"generate".as_slice() {
+        Some(Operand::Count)
+    } else {
+        None
+    }
+}
+
+/// What is wrong with a word that is no command, or none yet.
+fn tell_command(text: &mut String, command: &[u8]) -> Result<(), NoMemory> {
     let word = Shown(command);
-    if command.as_slice() == b"link".as_slice() {
-        tell_link_words(text, rest)
-    } else if LATER.contains(&command.as_slice()) {
+    if is_of_system(command) {
         write!(
             text,
-            "the command '{word}' isn't there yet: 'link' is the only one so far"
+            "the command '{word}' isn't there yet: 'link' and 'generate' are the only ones so far"
         )?;
-        Ok(())
     } else {
         write!(
             text,
             "no such command '{word}': 'relink link /kit' links the kit in the folder kit"
         )?;
-        Ok(())
     }
+    Ok(())
 }
 
-/// What is wrong with the words behind `link`.
-fn tell_link_words(text: &mut String, words: &[Vec<u8>]) -> Result<(), NoMemory> {
+/// What is wrong with the words behind a command.
+fn tell_operands(text: &mut String, operand: Operand, words: &[Vec<u8>]) -> Result<(), NoMemory> {
     match words {
         [] => {
-            write!(
-                text,
-                "'link' needs the folder of a kit, as in 'relink link /kit'"
-            )?;
+            write!(text, "{}", operand.missing())?;
             Ok(())
         }
-        [folder] => tell_folder(text, folder),
-        [folder, option, values @ ..] if option.as_slice() == b"--seed".as_slice() => {
-            tell_seeded_words(text, folder, values)
+        [word] => tell_operand(text, operand, word),
+        [word, option, values @ ..] if option.as_slice() == b"--seed".as_slice() => {
+            tell_seeded_words(text, operand, word, values)
         }
-        [_, word, ..] => tell_one_too_many(text, word),
+        [_, word, ..] => tell_one_too_many(text, operand, word),
     }
 }
 
-/// What is wrong with a folder, or with the words behind `--seed`.
-fn tell_seeded_words(text: &mut String, folder: &[u8], values: &[Vec<u8>]) -> Result<(), NoMemory> {
+/// What is wrong with the word behind a command.
+fn tell_operand(text: &mut String, operand: Operand, word: &[u8]) -> Result<(), NoMemory> {
+    match operand {
+        Operand::Folder => tell_folder(text, word),
+        Operand::Count => tell_count(text, word),
+    }
+}
+
+/// What is wrong with a number of objects.
+fn tell_count(text: &mut String, count: &[u8]) -> Result<(), NoMemory> {
+    let word = Shown(count);
+    write!(
+        text,
+        "the number '{word}' isn't taken: 'generate' makes 1 to {MADE_LIMIT} objects, and a number has no leading zero"
+    )?;
+    Ok(())
+}
+
+/// What is wrong with the word behind a command, or with the words behind `--seed`.
+fn tell_seeded_words(
+    text: &mut String,
+    operand: Operand,
+    word: &[u8],
+    values: &[Vec<u8>],
+) -> Result<(), NoMemory> {
     match values {
         [] => {
             write!(
@@ -69,18 +133,18 @@ fn tell_seeded_words(text: &mut String, folder: &[u8], values: &[Vec<u8>]) -> Re
             )?;
             Ok(())
         }
-        [seed] if is_seed(seed) => tell_folder(text, folder),
+        [seed] if is_seed(seed) => tell_operand(text, operand, word),
         [seed] => tell_seed(text, seed),
-        [_, word, ..] => tell_one_too_many(text, word),
+        [_, word, ..] => tell_one_too_many(text, operand, word),
     }
 }
 
 /// Tells of a word too many.
-fn tell_one_too_many(text: &mut String, word: &[u8]) -> Result<(), NoMemory> {
-    let word = Shown(word);
+fn tell_one_too_many(text: &mut String, operand: Operand, word: &[u8]) -> Result<(), NoMemory> {
+    let (word, taken) = (Shown(word), operand.taken());
     write!(
         text,
-        "the word '{word}' is one too many: 'link' takes one folder, and '--seed HEX' behind it"
+        "the word '{word}' is one too many: {taken}, and '--seed HEX' behind it"
     )?;
     Ok(())
 }

@@ -39,7 +39,7 @@ fn entry(index: u32) -> FieldAt {
 #[test]
 fn tells_words(rt: HostRuntime) -> Result<(), Fail> {
     let alloc = rt.alloc();
-    let rows: [(&[u8], &str); 17] = [
+    let rows: [(&[u8], &str); 20] = [
         (
             b"",
             "no command is given: 'relink link /kit' links the kit in the folder kit\n",
@@ -49,12 +49,24 @@ fn tells_words(rt: HostRuntime) -> Result<(), Fail> {
             "no such command 'lnk': 'relink link /kit' links the kit in the folder kit\n",
         ),
         (
-            b"generate|9",
-            "the command 'generate' isn't there yet: 'link' is the only one so far\n",
+            b"generate",
+            "'generate' needs a number of objects, as in 'relink generate 200'\n",
+        ),
+        (
+            b"generate|4097",
+            "the number '4097' isn't taken: 'generate' makes 1 to 4096 objects, and a number has no leading zero\n",
+        ),
+        (
+            b"generate|01|--seed|0000000000000000000000000000000000000000000000000000000000000000",
+            "the number '01' isn't taken: 'generate' makes 1 to 4096 objects, and a number has no leading zero\n",
+        ),
+        (
+            b"generate|9|now",
+            "the word 'now' is one too many: 'generate' takes one number, and '--seed HEX' behind it\n",
         ),
         (
             b"recover",
-            "the command 'recover' isn't there yet: 'link' is the only one so far\n\
+            "the command 'recover' isn't there yet: 'link' and 'generate' are the only ones so far\n\
              relink: it works on the files below the folder in which it is started, /somewhere: start it in /\n",
         ),
         (

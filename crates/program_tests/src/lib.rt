@@ -4,6 +4,8 @@
 #[cfg(test)]
 mod author;
 #[cfg(test)]
+mod generated;
+#[cfg(test)]
 mod host;
 #[cfg(test)]
 mod runs;

@@ -93,7 +93,7 @@ fn object(alloc: Global) -> Result<Vec<u8>, Fail> {
 }
 
 /// The answer to words over a store, with a source of so many blocks and a sink that takes so many calls, and what was written.
-fn answer_with(
+pub(crate) fn answer_with(
     alloc: Global,
     words: &[&[u8]],
     store: &mut MemStore,
@@ -232,7 +232,7 @@ fn links_in_the_drawn_order(rt: HostRuntime) -> Result<(), Fail> {
 #[test]
 fn tells_usage(rt: HostRuntime) -> Result<(), Fail> {
     let alloc = rt.alloc();
-    let cases: [&[&[u8]]; 12] = [
+    let cases: [&[&[u8]]; 17] = [
         &[],
         &[b"link"],
         &[b"link", b"kit"],
@@ -245,6 +245,11 @@ fn tells_usage(rt: HostRuntime) -> Result<(), Fail> {
         &[b"link", b"/kit", b"--seed", LONG],
         &[b"link", b"--seed", DIGITS, b"/kit"],
         &[b"link", b"/kit", b"--seed", DIGITS, b"/kit"],
+        &[b"generate"],
+        &[b"generate", b"0"],
+        &[b"generate", b"01"],
+        &[b"generate", b"4097"],
+        &[b"generate", b"1", b"--seed", b"00"],
     ];
     for words in cases {
         let mut store = MemStore::new(alloc);

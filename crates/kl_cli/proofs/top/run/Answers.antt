@@ -1,7 +1,7 @@
 use Rattle.std.proofs.Common.{◌≡◌, ◌∙◌, ap, rules}
 use Rattle.std.specs.Prelude.{is_ok}
 use Rattle.kl_cli.specs.Answers.{cause_of, texts}
-use Rattle.kl_cli.proofs.Said.{answers, done_ends, says}
+use Rattle.kl_cli.proofs.Said.{answers, done_ends, done_in_memory, says}
 use Rattle.kl_cli.proofs.top.run.Goals as goal
 
 pub returns-clause-answer : goal.returns-clause-answer
@@ -11,6 +11,9 @@ returns-clause-answer g c =
 
 pub returns-clause-done : goal.returns-clause-done
 returns-clause-done g c = λ done. done_ends c.answer-ended.result c.is_ok.result c.answer-ended.ensures.done c.answer-ended.ensures.refusal (rw (c.of.ensures.cause, c.cause_of.ensures) at done)
+
+pub returns-clause-memory : goal.returns-clause-memory
+returns-clause-memory g c = λ asks. rw (c.of.ensures.cause, c.cause_of.ensures) (done_in_memory c.answer-ended.result c.is_ok.result (c.answer-ended.ensures.memory asks))
 
 pub returns-clause-says : goal.returns-clause-says
 returns-clause-says g c =
