@@ -78,7 +78,12 @@ def new_folder(root, name):
 
 def peers(options):
     found = [(name, words) for name, words in PEERS.items() if shutil.which(words[0])]
-    return [(f"{name} {options[0]}", [*words, *options, "-o", "linked", "@kit/files"], (0,)) for name, words in found]
+    return [(f"{name} {options[0]}", [*words, *for_linker(name, options), "-o", "linked", "@kit/files"], (0,)) for name, words in found]
+
+
+def for_linker(name, options):
+    """The options of a linker: mold takes the address of the first page in the place of that of the code."""
+    return [f"--image-base={ADDRESS:#x}" if name == "mold" and option.startswith("-Ttext=") else option for option in options]
 
 
 def linked(relink, root, count):
