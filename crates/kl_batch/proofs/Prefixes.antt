@@ -12,7 +12,7 @@ use Rattle.kl_base.specs.declared.class.Slot.TheVariants as slot
 use Rattle.kl_store.specs.Names.{Names, is_scratch, same_name}
 use Rattle.kl_store.specs.Disk.{Disk, names_now}
 use Rattle.kl_store.specs.Meaning.{Meaning}
-use Rattle.kl_store.specs.Images.{Leaves}
+use Rattle.kl_store.specs.Images.{Leaves, NamesHave}
 use Rattle.kl_store.specs.Files.{SameNames}
 use Rattle.kl_base.proofs.Bools.{true_false}
 use Rattle.kl_store.proofs.NameMaps.{same_eq, same_refl}
@@ -244,7 +244,7 @@ installed_none slot a free d told e now = record {
   settled = λ some. absurd (omega (arith, some));
 }
 
--- what a stop leaves while a kernel is installed, and what is installed with Ok
+-- what a stop leaves while a kernel is installed, what is installed with Ok, and what the names are whatever the answer
 module _ {T E : Type 0} {a y : Meaning} {result : Result T E} (p : Plan) (image record_text map : List ℕ) (batch : IsKernelBatch p image record_text map)
     (free : ForSome a.disk (λ d. get (names_now d) (slot_name slot.Kernel) ≡ None))
     (installs : Installs slot.Kernel (kernel_files image record_text map) a y result) where
@@ -256,3 +256,7 @@ module _ {T E : Type 0} {a y : Meaning} {result : Result T E} (p : Plan) (image 
 
   pub kernel_done : OnOk result (ForSome a.disk (λ d. ForSome y.disk (AreInstalled slot.Kernel (p ∷ []) (names_now d))))
   kernel_done = installed_more slot.Kernel [] p image map tt (kernel_next p batch.plan) batch.linked leaves_none (installed_none slot.Kernel a free) of_files
+
+  pub kernel_stop : NamesHave a y (MayLeave slot.Kernel (p ∷ []))
+  kernel_stop d told e now =
+      (go_on slot.Kernel [] p image map (names_now d) d tt (kernel_next p batch.plan) batch.linked (installed_none slot.Kernel a free d told d told)).stop (names_now e) (of_files.names d told e now)

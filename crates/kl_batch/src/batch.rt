@@ -5,7 +5,7 @@ ghost use Rattle.std.specs.Option.{ForSome};
 ghost use Rattle.kl_store.specs.Calls.{HasCause, Holds};
 ghost use Rattle.kl_store.specs.Disk.{names_now};
 ghost use Rattle.kl_store.specs.Files.{KeepsNames};
-ghost use Rattle.kl_store.specs.Images.{Leaves};
+ghost use Rattle.kl_store.specs.Images.{Leaves, NamesHave};
 ghost use Rattle.kl_intent.specs.IntentText.{slot_name};
 ghost use Rattle.kl_install.specs.Installers.{is_ready, slot_of, staged};
 ghost use Rattle.kl_batch.specs.Together.{Installs, IsElsewhere};
@@ -31,9 +31,11 @@ pub fn put_kernel<S: Store>(
     requires free { Holds (S.meaning store.old) (slot_name slot.Kernel) (λ file. file ≡ None) }
     ensures installs { Installs slot.Kernel (kernel_files image.now record_text.now map.now) (S.meaning store.old) (S.meaning store.new) result }
 
-    // Where they are those of a kernel's plan, that batch is installed with Ok, and whatever the answer a stop leaves it or none.
+    // Where they are those of a kernel's plan, that batch is installed with Ok, and whatever the answer a stop leaves it or none, as the
+    // names then are.
     ensures installed { (p : Plan) → IsKernelBatch p image.now record_text.now map.now → OnOk result (ForSome (S.meaning store.old).disk (λ d. ForSome (S.meaning store.new).disk (AreInstalled slot.Kernel (p ∷ []) (names_now d)))) }
     ensures crash { (p : Plan) → IsKernelBatch p image.now record_text.now map.now → Leaves (S.meaning store.old) (S.meaning store.new) (MayLeave slot.Kernel (p ∷ [])) }
+    ensures stopped { (p : Plan) → IsKernelBatch p image.now record_text.now map.now → NamesHave (S.meaning store.old) (S.meaning store.new) (MayLeave slot.Kernel (p ∷ [])) }
     ensures others { KeepsNames (IsElsewhere slot.Kernel (kernel_files image.now record_text.now map.now)) (S.meaning store.old) (S.meaning store.new) }
     ensures cause { HasCause (S.faults store.old) (S.faults store.new) result }
 {

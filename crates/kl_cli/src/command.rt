@@ -1,9 +1,8 @@
 // The words of the command line.
-ghost use Rattle.std.specs.Prelude.{◌≡◌, IfSome};
-ghost use Rattle.std.specs.Prelude.{◌≤◌, length};
+ghost use Rattle.std.specs.Prelude.{◌≡◌, ◌≤◌, length, IfSome};
 ghost use Rattle.kl_base.specs.declared.limits.TheConstants.{FILE_LIMIT};
 ghost use Rattle.kl_generate.specs.declared.limits.TheConstants.{MADE_LIMIT};
-ghost use Rattle.kl_cli.specs.Commands.{IsCommand, IsRequest, command_of, count_of, flagged, folder_of, four_words, own_seed, seed_of, seeded, two_words, unseeded};
+ghost use Rattle.kl_cli.specs.Commands.{IsCommand, IsRequest, command_of, command_with, count_of, flagged, folder_of, own_seed, seed_of, seeded, takes_seed, unseeded};
 ghost use Rattle.kl_cli.specs.Answers.{texts};
 
 use kl_base::{FILE_LIMIT, Name};
@@ -15,21 +14,35 @@ use kl_text::number_of;
 pub enum Command {
     /// Links the kit in a folder, whose name has at most `FILE_LIMIT` bytes.
     Link(Name),
+    /// Links the kernel's kit, and installs the kernel with its record and its map.
+    ReorderKernel,
+    /// Completes the batches of files that were stopped.
+    Recover,
     /// Makes the kit of a kernel of so many objects, from 1 to `MADE_LIMIT`, in memory, and links it.
     Generate(u32),
 }
 
 impl Command {
     ghost use Rattle.std.specs.Prelude.{◌≡◌};
-    ghost use Rattle.kl_cli.specs.Commands.{own_seed};
+    ghost use Rattle.kl_cli.specs.Commands.{own_seed, takes_seed};
 
     /// The seed of a command that draws none, where none is given with it.
     fn own_seed(&self) -> Option<[u8; 32]>
         ensures { result ≡ own_seed self.now }
     {
         match self {
-            Command::Link(_) => None,
-            Command::Generate(_) => Some([0; 32]),
+            Command::Link(_) | Command::ReorderKernel => None,
+            Command::Recover | Command::Generate(_) => Some([0; 32]),
+        }
+    }
+
+    /// Whether a seed may be given with the command.
+    fn takes_seed(&self) -> bool
+        ensures { result ≡ takes_seed self.now }
+    {
+        match self {
+            Command::Link(_) | Command::ReorderKernel | Command::Generate(_) => true,
+            Command::Recover => false,
         }
     }
 }
@@ -47,67 +60,55 @@ impl Request {
     ghost use Rattle.kl_cli.specs.Commands.{IsRequest, request_of};
     ghost use Rattle.kl_cli.specs.Answers.{texts};
 
-    /// What these words ask for, if they are a command: `link DIR` or `generate N`, with `--seed HEX` behind it or without.
+    /// What these words ask for, if they are a command: `link DIR`, `reorder_kernel`, `recover` or `generate N`, with `--seed HEX` behind it,
+    /// but for `recover`, or without.
     pub fn of_words(words: &[Vec<u8>]) -> Option<Request>
         ensures words { result ≡ request_of (texts words.now) }
         ensures command { IfSome result (λ r. IsRequest r.command r.seed) }
     {
-        match two_words(words) {
-            Some(request) => Some(request),
-            None => four_words(words),
+        match words {
+            [word] => unseeded(command_of(word)),
+            [word, operand] => unseeded(command_with(word, operand)),
+            [word, flag, digits] => flagged(command_of(word), flag, digits),
+            [word, operand, flag, digits] => flagged(command_with(word, operand), flag, digits),
+            _ => None,
         }
     }
 }
 
-/// What two words ask for.
-fn two_words(words: &[Vec<u8>]) -> Option<Request>
-    ensures words { result ≡ two_words (texts words.now) }
+/// What a command asks for without a seed.
+fn unseeded(command: Option<Command>) -> Option<Request>
+    requires { IfSome command IsCommand }
+    ensures words { result ≡ unseeded command }
     ensures command { IfSome result (λ r. IsRequest r.command r.seed) }
 {
-    if words.len() != 2 {
-        return None;
-    }
-    unseeded(&words[0], &words[1])
+    let command = command?;
+    let seed = command.own_seed();
+    Some(Request { command, seed })
 }
 
-/// What four words ask for.
-fn four_words(words: &[Vec<u8>]) -> Option<Request>
-    ensures words { result ≡ four_words (texts words.now) }
-    ensures command { IfSome result (λ r. IsRequest r.command r.seed) }
-{
-    if words.len() != 4 {
-        return None;
-    }
-    flagged(&words[0], &words[1], &words[2], &words[3])
-}
-
-/// What words ask for with two more behind them.
-fn flagged(word: &[u8], operand: &[u8], flag: &[u8], digits: &[u8]) -> Option<Request>
-    ensures words { result ≡ flagged word.now operand.now flag.now digits.now }
+/// What a command asks for with two more words behind it.
+fn flagged(command: Option<Command>, flag: &[u8], digits: &[u8]) -> Option<Request>
+    requires { IfSome command IsCommand }
+    ensures words { result ≡ flagged command flag.now digits.now }
     ensures command { IfSome result (λ r. IsRequest r.command r.seed) }
 {
     if flag != b"--seed".as_slice() {
         return None;
     }
-    seeded(word, operand, digits)
+    seeded(command, digits)
 }
 
-/// What words without a seed ask for.
-fn unseeded(word: &[u8], operand: &[u8]) -> Option<Request>
-    ensures words { result ≡ unseeded word.now operand.now }
+/// What a command asks for with a seed.
+fn seeded(command: Option<Command>, digits: &[u8]) -> Option<Request>
+    requires { IfSome command IsCommand }
+    ensures words { result ≡ seeded command digits.now }
     ensures command { IfSome result (λ r. IsRequest r.command r.seed) }
 {
-    let command = command_of(word, operand)?;
-    let seed = command.own_seed();
-    Some(Request { command, seed })
-}
-
-/// What words with a seed ask for.
-fn seeded(word: &[u8], operand: &[u8], digits: &[u8]) -> Option<Request>
-    ensures words { result ≡ seeded word.now operand.now digits.now }
-    ensures command { IfSome result (λ r. IsRequest r.command r.seed) }
-{
-    let command = command_of(word, operand)?;
+    let command = command?;
+    if !command.takes_seed() {
+        return None;
+    }
     let seed = seed_of(digits)?;
     Some(Request {
         command,
@@ -151,9 +152,23 @@ fn count_of(word: &[u8]) -> Option<u32>
     }
 }
 
+/// The command of a word alone: `reorder_kernel` or `recover`.
+fn command_of(word: &[u8]) -> Option<Command>
+    ensures words { result ≡ command_of word.now }
+    ensures command { IfSome result IsCommand }
+{
+    if word == b"reorder_kernel".as_slice() {
+        Some(Command::ReorderKernel)
+    } else if word == b"recover".as_slice() {
+        Some(Command::Recover)
+    } else {
+        None
+    }
+}
+
 /// The command of a word and the one behind it: `link DIR` or `generate N`.
-fn command_of(word: &[u8], operand: &[u8]) -> Option<Command>
-    ensures words { result ≡ command_of word.now operand.now }
+fn command_with(word: &[u8], operand: &[u8]) -> Option<Command>
+    ensures words { result ≡ command_with word.now operand.now }
     ensures command { IfSome result IsCommand }
 {
     if word == b"link".as_slice() {

@@ -1,5 +1,5 @@
 -- The lines of a kit in kit order, and its inputs.
-use Rattle.std.proofs.Common.{ℕ, zero, suc, ◌≡◌, ◌+◌, ◌<◌, ◌≤◌, ◌∙◌, List, [], ◌∷◌, ◌++◌, length, map, get_or, refl, sym, ap, arith, Bool, true, not, ◌&&◌, inl, inr}
+use Rattle.std.proofs.Common.{ℕ, suc, ◌≡◌, ◌<◌, ◌≤◌, ◌∙◌, List, [], ◌∷◌, ◌++◌, length, map, get_or, refl, sym, ap, arith, Bool, true, not, ◌&&◌, inl, inr}
 use Rattle.std.specs.Prelude.{All, AllPairs, None, Some, Option, ◌==◌, nat_le, nat_eq, is_none, sum_by, codes}
 use Rattle.std.specs.Str.{bytes_eq}
 use Rattle.std.specs.List.{AllByRecursion, ends_with}

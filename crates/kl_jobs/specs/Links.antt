@@ -7,6 +7,7 @@ use Rattle.kl_store.specs.Meaning.{Meaning}
 use Rattle.kl_store.specs.Images.{IsSettledAt}
 use Rattle.kl_store.specs.Outside.{Blocks}
 use Rattle.kl_model.specs.declared.kit.Kit.{Kit}
+use Rattle.kl_model.specs.declared.kit.KitKind.{KitKind}
 use Rattle.kl_model.specs.declared.object.Input.{Input}
 use Rattle.kl_jobs.specs.Reading.{inputs_in, kit_in, kit_order, lines_refusal, text_refusal}
 use Rattle.kl_jobs.specs.Seeds.{IsSeed}
@@ -14,9 +15,9 @@ use Rattle.kl_jobs.specs.Writing.{IsPutPair}
 use Rattle.kl_link.specs.Links.{AreLinked, report_of}
 use Rattle.kl_link.specs.declared.report.Report.{Report}
 
--- the kit and the inputs of a folder, as its files say: nothing stands against them
-pub record IsKitOf (m : Names) (dir : List ℕ) (kit : Kit) (inputs : List Input) : Type 0 where
-  pub text : text_refusal m dir ≡ None
+-- the kit and the inputs of a folder, as its files say, of the kind that is wanted: nothing stands against them
+pub record IsKitOf (wanted : Option KitKind) (m : Names) (dir : List ℕ) (kit : Kit) (inputs : List Input) : Type 0 where
+  pub text : text_refusal wanted m dir ≡ None
   pub kit_is : kit ≡ kit_in m dir
   pub lines : lines_refusal m dir [] (kit_order kit.inputs) ≡ None
   pub inputs_are : inputs ≡ inputs_in m dir (kit_order kit.inputs)
@@ -28,7 +29,7 @@ pub record IsLinked (dir seed : List ℕ) (report : Report) (m n : Names) : Type
   pub inputs : List Input
   pub image : List ℕ
   pub map : List ℕ
-  pub reads : IsKitOf m dir kit inputs
+  pub reads : IsKitOf None m dir kit inputs
   pub linked : AreLinked seed kit inputs image map
   pub told : report ≡ report_of kit inputs image
   pub written : IsPutPair dir image map m n

@@ -6,9 +6,10 @@ use Rattle.std.specs.FinMap.{get}
 use Rattle.kl_base.specs.declared.limits.TheConstants.{FIELD_COUNT_LIMIT, INPUT_BYTES_LIMIT, INPUT_COUNT_LIMIT, INPUT_LIMIT, KIT_TEXT_LIMIT, SECTION_COUNT_LIMIT, SYMBOL_COUNT_LIMIT}
 use Rattle.kl_store.specs.Names.{Names}
 use Rattle.kl_model.specs.Kept.{part_number}
-use Rattle.kl_model.specs.Kits.{is_kernel}
 use Rattle.kl_model.specs.declared.kit.Kit.{Kit}
 use Rattle.kl_model.specs.declared.kit.KitInput.{KitInput}
+use Rattle.kl_model.specs.declared.kit.KitKind.{KitKind}
+use Rattle.kl_model.specs.declared.kit.KitKind.TheVariants.{Kernel, Library}
 use Rattle.kl_model.specs.declared.object.Input.{Input}
 use Rattle.kl_model.specs.declared.object.Part.{Part}
 use Rattle.kl_model.specs.declared.object.Part.TheVariants.{Head, Drawn, Tail}
@@ -19,7 +20,7 @@ use Rattle.kl_rel.specs.declared.fault.ReadFault.{ReadFault}
 use Rattle.kl_jobs.specs.declared.cause.Cause.{Cause}
 use Rattle.kl_jobs.specs.declared.cause.Cause.TheVariants.{NotYet}
 use Rattle.kl_jobs.specs.declared.cause.Cause.TheVariants as cause
-use Rattle.kl_jobs.specs.declared.cause.KitCause.TheVariants.{Absent, Text, TooLong, Total}
+use Rattle.kl_jobs.specs.declared.cause.KitCause.TheVariants.{Absent, Kind, Text, TooLong, Total}
 use Rattle.kl_jobs.specs.declared.cause.ObjectCause.TheVariants.{Elf}
 use Rattle.kl_jobs.specs.declared.cause.TotalOf.{TotalOf}
 use Rattle.kl_jobs.specs.declared.cause.TotalOf.TheVariants.{Inputs, Bytes, Sections, Symbols, Fields}
@@ -62,15 +63,25 @@ fault_of name limit (Some bytes) = if nat_lt limit (length bytes) then Some (cau
 abbrev pub file_fault : Names → List ℕ → ℕ → Option Cause
 file_fault m name limit = fault_of name limit (get m name)
 
--- WHY A KIT TEXT IS REFUSED: its first fault, or that it is a library's
+-- WHY A KIT OF A KIND ISN'T TAKEN, where a kernel's is wanted, or a library's, or one of either kind: it is of the other, or it is a
+-- library's
+abbrev pub kind_refusal : Option KitKind → KitKind → Option Cause
+kind_refusal None Kernel = None
+kind_refusal None Library = Some NotYet
+kind_refusal (Some Kernel) Kernel = None
+kind_refusal (Some Kernel) Library = Some (cause.Kit Kind)
+kind_refusal (Some Library) Kernel = Some (cause.Kit Kind)
+kind_refusal (Some Library) Library = Some NotYet
+
+-- WHY A KIT TEXT IS REFUSED: its first fault, or its kind
 abbrev pub text_cause : KitFault → Cause
 text_cause f = cause.Kit (Text f)
 
-abbrev pub contents_refusal : List ℕ → Option Cause
-contents_refusal text = option_or (option_map text_cause (slice_get (kit_faults text) 0)) (if is_kernel (kit_of text).kind then None else Some NotYet)
+abbrev pub contents_refusal : Option KitKind → List ℕ → Option Cause
+contents_refusal wanted text = option_or (option_map text_cause (slice_get (kit_faults text) 0)) (kind_refusal wanted (kit_of text).kind)
 
-abbrev pub text_refusal : Names → List ℕ → Option Cause
-text_refusal m dir = option_or (file_fault m (kit_text dir) KIT_TEXT_LIMIT) (contents_refusal (held m (kit_text dir)))
+abbrev pub text_refusal : Option KitKind → Names → List ℕ → Option Cause
+text_refusal wanted m dir = option_or (file_fault m (kit_text dir) KIT_TEXT_LIMIT) (contents_refusal wanted (held m (kit_text dir)))
 
 -- an archive, by its first eight bytes: one with its members, or a thin one, which only names them
 abbrev pub is_archive : List ℕ → Bool

@@ -1,5 +1,5 @@
 // The kit of a folder, and its inputs, one file after another.
-ghost use Rattle.std.specs.Prelude.{List, false, ◌≡◌, ◌≢◌, ◌<◌, ◌≤◌, ◌+◌, ◌++◌, ◌∷◌, ◌⊎◌, ◌==◌, ◌^◌, [], None, Some, All, AllPairs, filter, length, map, IfOk, IfErr, OnOk, IsErrOf};
+ghost use Rattle.std.specs.Prelude.{List, false, ◌≡◌, ◌≢◌, ◌<◌, ◌≤◌, ◌+◌, ◌++◌, ◌∷◌, ◌⊎◌, ◌==◌, ◌^◌, [], None, Some, All, AllPairs, filter, length, map, IfOk, IfErr, IfSome, OnOk, IsErrOf};
 ghost use Rattle.std.specs.List.{AllByRecursion};
 ghost use Rattle.std.specs.Option.{ForSome};
 ghost use Rattle.kl_base.specs.Names.{name_fault};
@@ -9,9 +9,10 @@ ghost use Rattle.kl_model.specs.Fit.{AreFit, IsFit, IsKit};
 ghost use Rattle.kl_model.specs.Kept.{part_number};
 ghost use Rattle.kl_model.specs.declared.kit.KitKind.TheVariants.{Kernel};
 ghost use Rattle.kl_kit.specs.Forms.{HasFile};
+ghost use Rattle.kl_batch.specs.declared.names.TheConstants.{KERNEL};
 ghost use Rattle.kl_model.specs.declared.object.Input.{Input};
 ghost use Rattle.kl_rel.specs.Objects.{flaw, object};
-ghost use Rattle.kl_jobs.specs.Reading.{Counts, below, input_of, input_refusal, inputs_in, kit_in, kit_order as lines_in_kit_order, lines_of, lines_refusal, over, over_totals, text_refusal};
+ghost use Rattle.kl_jobs.specs.Reading.{Counts, below, input_of, input_refusal, inputs_in, kind_refusal, kit_in, kit_order as lines_in_kit_order, lines_of, lines_refusal, over, over_totals, text_refusal};
 ghost use Rattle.kl_jobs.specs.Reading.{is_archive as is_archive_of};
 ghost use Rattle.kl_jobs.specs.Refusals.{IsRefusal, Refuses};
 
@@ -27,19 +28,26 @@ use kl_rel::{LimitError, read_object_within};
 use kl_store::Store;
 use std::alloc::Global;
 
-/// The kernel's kit that a folder's text says.
+/// The kernel's kit that a folder's text says, where a kernel's is wanted or one of either kind.
 ///
 /// # Errors
 ///
-/// `Kit` where there is no text, or it is too long, or with its first fault; `NotYet` where it is a library's.
-pub fn read_text<S: Store>(alloc: Global, dir: &Name, store: &mut S) -> Result<Kit, Cause>
+/// `Kit` where there is no text, or it is too long, or with its first fault, or where it isn't of the kind that is wanted; `NotYet` where it
+/// is a library's.
+pub fn read_text<S: Store>(
+    alloc: Global,
+    dir: &Name,
+    wanted: Option<KitKind>,
+    store: &mut S,
+) -> Result<Kit, Cause>
     requires { length dir.now ≤ FILE_LIMIT }
     ensures reads { IfOk result (λ kit. ForSome (S.meaning store.old).names (λ m. kit ≡ kit_in m dir.now)) }
-    ensures stands { OnOk result (ForSome (S.meaning store.old).names (λ m. text_refusal m dir.now ≡ None)) }
+    ensures stands { OnOk result (ForSome (S.meaning store.old).names (λ m. text_refusal wanted m dir.now ≡ None)) }
     ensures form { IfOk result IsKit }
     ensures kernel { IfOk result (λ kit. kit.kind ≡ Kernel) }
+    ensures output { IfOk result (λ kit. kit.output ≡ KERNEL) }
     ensures inputs { IfOk result (λ kit. AllByRecursion HasFile kit.inputs) }
-    ensures refused { IfErr result (Refuses (S.meaning store.old) (λ m. text_refusal m dir.now)) }
+    ensures refused { IfErr result (Refuses (S.meaning store.old) (λ m. text_refusal wanted m dir.now)) }
     ensures refusal { IfErr result IsRefusal }
     ensures failed { IsErrOf result Cause.Store → Rose (S.faults store.old) (S.faults store.new) }
     ensures faults { S.faults store.old ≤ S.faults store.new }
@@ -51,9 +59,22 @@ pub fn read_text<S: Store>(alloc: Global, dir: &Name, store: &mut S) -> Result<K
         Err(KitError::NoMemory) => return Err(Cause::NoMemory),
         Err(KitError::Fault(fault)) => return Err(Cause::Kit(KitCause::Text(fault))),
     };
-    match kit.kind {
-        KitKind::Kernel => Ok(kit),
-        KitKind::Library => Err(Cause::NotYet),
+    match kind_refusal(wanted, kit.kind) {
+        None => Ok(kit),
+        Some(cause) => Err(cause),
+    }
+}
+
+/// Why a kit of this kind isn't taken where one of a kind is wanted, or one of either: it is of the other, or a library's.
+fn kind_refusal(wanted: Option<KitKind>, kind: KitKind) -> Option<Cause>
+    ensures kind { result ≡ kind_refusal wanted kind }
+    ensures refusal { IfSome result IsRefusal }
+    ensures no_store { IfSome result (λ c. c ≢ Cause.Store) }
+{
+    match (wanted, kind) {
+        (None | Some(KitKind::Kernel), KitKind::Kernel) => None,
+        (None | Some(KitKind::Library), KitKind::Library) => Some(Cause::NotYet),
+        _ => Some(Cause::Kit(KitCause::Kind)),
     }
 }
 

@@ -1,6 +1,11 @@
 -- THE LINES THAT A COMMAND WRITES, each ended by a newline: what was done, or why it wasn't. Numbers are decimal.
-use Rattle.std.specs.Prelude.{ℕ, List, [], ◌++◌, codes, decimal}
+use Rattle.std.specs.Prelude.{ℕ, List, [], ◌++◌, codes, decimal, Option, Some, None}
 use Rattle.hex.specs.Hex.{encode_lower}
+use Rattle.kl_digest.specs.declared.record.RecordFault.{RecordFault}
+use Rattle.kl_digest.specs.declared.record.RecordFault.TheVariants as fault
+use Rattle.kl_install.specs.declared.recover.SlotEnd.{SlotEnd}
+use Rattle.kl_install.specs.declared.recover.SlotEnd.TheVariants.{Nothing, Completed, Foreign, BadIntent}
+use Rattle.kl_intent.specs.IntentText.{slot_name}
 use Rattle.kl_kit.specs.declared.fault.KitFault.{KitFault}
 use Rattle.kl_kit.specs.declared.fault.KitFault.TheVariants as kit
 use Rattle.kl_model.specs.declared.graph.FieldAt.{FieldAt}
@@ -9,7 +14,9 @@ use Rattle.kl_model.specs.declared.link.LinkFault.TheVariants as link
 use Rattle.kl_jobs.specs.declared.cause.Cause.{Cause}
 use Rattle.kl_jobs.specs.declared.cause.Cause.TheVariants as cause
 use Rattle.kl_jobs.specs.declared.cause.KitCause.{KitCause}
-use Rattle.kl_jobs.specs.declared.cause.KitCause.TheVariants.{Absent, Text, TooLong, Total}
+use Rattle.kl_jobs.specs.declared.cause.KitCause.TheVariants.{Absent, Kind, Text, TooLong, Total}
+use Rattle.kl_jobs.specs.declared.cause.RecordCause.{RecordCause}
+use Rattle.kl_jobs.specs.declared.cause.RecordCause.TheVariants as record_cause
 use Rattle.kl_link.specs.declared.report.Report.{Report}
 use Rattle.kl_lines.specs.Escaped.{escaped}
 
@@ -23,9 +30,55 @@ report_line first then r =
 abbrev pub link_line : List ℕ → Report → List ℕ
 link_line dir r = report_line dir (codes " linked") r
 
+-- the kernel was linked and installed
+abbrev pub kernel_line : Report → List ℕ
+kernel_line r = report_line (codes "/bsd") (codes " relinked") r
+
 -- a kit of some objects was made in memory and linked
 abbrev pub generate_line : ℕ → Report → List ℕ
 generate_line count r = report_line (codes "generated ") (decimal count) r
+
+-- HOW A RECOVERY ENDED: how each slot did, the kernel's first
+abbrev pub slot_number_line : List ℕ → List ℕ → ℕ → List ℕ
+slot_number_line slot words number = slot ++ (words ++ (decimal number ++ codes "\n"))
+
+abbrev pub slot_line : List ℕ → SlotEnd → List ℕ
+slot_line slot Nothing = slot ++ codes " nothing pending\n"
+slot_line slot (Completed files) = slot_number_line slot (codes " completed ") files
+slot_line slot (Foreign entry target temp) = slot_number_line slot (codes " foreign entry ") entry
+slot_line slot (BadIntent line) = slot_number_line slot (codes " bad intent line ") line
+
+abbrev pub slot_lines : SlotEnd → SlotEnd → List ℕ
+slot_lines kernel libs = slot_line (codes "kernel") kernel ++ slot_line (codes "libs") libs
+
+-- some words and the name of a file, or a number
+abbrev pub file_line : List ℕ → List ℕ → List ℕ
+file_line words name = words ++ (name ++ codes "\n")
+
+abbrev pub numbered_line : List ℕ → ℕ → List ℕ
+numbered_line words number = words ++ (decimal number ++ codes "\n")
+
+-- the number of a fault of a record, and why the record isn't read
+abbrev pub record_fault_number : RecordFault → ℕ
+record_fault_number (fault.Length found) = 1
+record_fault_number (fault.Text place) = 2
+record_fault_number (fault.Digit place) = 3
+record_fault_number fault.End = 4
+
+abbrev pub record_line : RecordCause → List ℕ
+record_line record_cause.Absent = codes "relink: record absent\n"
+record_line (record_cause.Flaw f) = numbered_line (codes "relink: record flaw ") (record_fault_number f)
+
+-- that the kernel doesn't match its record: both digests, or that there is no kernel
+abbrev pub digest_words : List ℕ → List ℕ → List ℕ → List ℕ
+digest_words first digest then = first ++ (encode_lower digest ++ then)
+
+abbrev pub found_words : Option (List ℕ) → List ℕ
+found_words None = codes "absent\n"
+found_words (Some found) = digest_words [] found (codes "\n")
+
+abbrev pub mismatch_line : List ℕ → Option (List ℕ) → List ℕ
+mismatch_line recorded found = digest_words (codes "relink: /bsd does not match: recorded ") recorded (codes " found ") ++ found_words found
 
 -- the number of a fault of a kit text, and its line, which is 0 for what is missing
 abbrev pub kit_fault_number : KitFault → ℕ
@@ -56,9 +109,10 @@ kit_fault_line f = codes "relink: kit fault " ++ (decimal (kit_fault_number f) +
 -- why a kit isn't read
 abbrev pub kit_line : KitCause → List ℕ
 kit_line (Text f) = kit_fault_line f
-kit_line (Absent name) = codes "relink: absent " ++ name ++ codes "\n"
-kit_line (TooLong name) = codes "relink: too long " ++ name ++ codes "\n"
-kit_line (Total what line) = codes "relink: over limit line " ++ decimal line ++ codes "\n"
+kit_line (Absent name) = file_line (codes "relink: absent ") name
+kit_line (TooLong name) = file_line (codes "relink: too long ") name
+kit_line Kind = codes "relink: wrong kind\n"
+kit_line (Total what line) = numbered_line (codes "relink: over limit line ") line
 
 -- why an object isn't read, by its number and its line in the kit text
 abbrev pub object_line : ℕ → ℕ → List ℕ
@@ -101,7 +155,8 @@ link_fault_line link.NoMemory = codes "relink: out of memory\n"
 abbrev pub usage_line : List ℕ
 usage_line = codes "usage: relink link DIR | reorder_kernel | reorder_libs | recover | generate N; --seed HEX may end all but recover\n"
 
--- WHY A COMMAND ENDED; nothing is written where all was done, or where the form of a kit isn't linked yet
+-- WHY A COMMAND ENDED; nothing is written where all was done, where the form of a kit isn't linked yet, and of a recovery, whose lines
+-- are those of its slots
 abbrev pub cause_line : Cause → List ℕ
 cause_line cause.Done = []
 cause_line cause.Usage = usage_line
@@ -109,7 +164,12 @@ cause_line cause.NoMemory = codes "relink: out of memory\n"
 cause_line cause.Store = codes "relink: store fault\n"
 cause_line cause.Entropy = codes "relink: entropy fault\n"
 cause_line cause.Sink = []
+cause_line (cause.Pending slot) = file_line (codes "relink: intent pending ") (slot_name slot)
+cause_line (cause.Record r) = record_line r
+cause_line (cause.Mismatch recorded found) = mismatch_line recorded found
 cause_line (cause.Kit c) = kit_line c
 cause_line (cause.Object input line f) = object_line input line
 cause_line (cause.Link f) = link_fault_line f
 cause_line cause.NotYet = []
+cause_line (cause.Foreign slot entry target temp) = []
+cause_line (cause.Intent slot line) = []

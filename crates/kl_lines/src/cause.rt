@@ -2,13 +2,15 @@
 ghost use Rattle.std.specs.Prelude.{◌≡◌, ◌++◌, codes, decimal};
 ghost use Rattle.kl_store.specs.Calls.{HasCause};
 ghost use Rattle.kl_store.specs.Outside.{Writes};
-ghost use Rattle.kl_lines.specs.Lines.{cause_line, entry_line, entry_place, kit_fault_line, kit_fault_number, kit_fault_place, kit_line, link_fault_line, link_start, named_line, object_line, span_line};
+ghost use Rattle.kl_lines.specs.Lines.{cause_line, digest_words, entry_line, entry_place, file_line, found_words, kit_fault_line, kit_fault_number, kit_fault_place, kit_line, link_fault_line, link_start, mismatch_line, named_line, numbered_line, object_line, record_fault_number, record_line, span_line};
 
 use crate::escaped::write_escaped;
 use crate::pieces::write_pieces;
 use itoa::Buffer;
 use kl_base::Name;
-use kl_jobs::{Cause, KitCause};
+use kl_digest::RecordFault;
+use kl_intent::slot_name;
+use kl_jobs::{Cause, KitCause, RecordCause};
 use kl_kit::KitFault;
 use kl_model::{FieldAt, LinkFault};
 use kl_store::{Failed, Sink};
@@ -17,22 +19,95 @@ use kl_store::{Failed, Sink};
 const USAGE: &[u8] =
     b"usage: relink link DIR | reorder_kernel | reorder_libs | recover | generate N; --seed HEX may end all but recover\n";
 
-/// Writes why a command ended, in a line that scripts read. Nothing is written where all was done, or where the form of a kit isn't
-/// linked yet.
+/// Writes why a command ended, in a line that scripts read. Nothing is written where all was done, where the form of a kit isn't linked
+/// yet, and of a recovery, whose lines are those of its slots.
 pub fn write_cause<K: Sink>(out: &mut K, cause: &Cause) -> Result<(), Failed>
     ensures writes { Writes (cause_line cause.now) (K.meaning out.old) (K.meaning out.new) result }
     ensures cause { HasCause (K.faults out.old) (K.faults out.new) result }
 {
     match cause {
-        Cause::Done | Cause::Sink | Cause::NotYet => Ok(()),
+        Cause::Done | Cause::Sink | Cause::NotYet | Cause::Foreign { .. } | Cause::Intent { .. } =>
+            Ok(()),
         Cause::Usage => out.write(USAGE),
         Cause::NoMemory => out.write(b"relink: out of memory\n"),
         Cause::Store => out.write(b"relink: store fault\n"),
         Cause::Entropy => out.write(b"relink: entropy fault\n"),
+        Cause::Pending { slot } => write_file(out, b"relink: intent pending ", &slot_name(*slot)),
+        Cause::Record(cause) => write_record(out, cause),
+        Cause::Mismatch { recorded, found } => write_mismatch(out, recorded, found),
         Cause::Kit(cause) => write_kit(out, cause),
         Cause::Object { input, line, .. } => write_object(out, *input, *line),
         Cause::Link(fault) => write_link_fault(out, fault),
     }
+}
+
+/// Writes why the kernel's record isn't read.
+fn write_record<K: Sink>(out: &mut K, cause: &RecordCause) -> Result<(), Failed>
+    ensures writes { Writes (record_line cause.now) (K.meaning out.old) (K.meaning out.new) result }
+    ensures cause { HasCause (K.faults out.old) (K.faults out.new) result }
+{
+    match cause {
+        RecordCause::Absent => out.write(b"relink: record absent\n"),
+        RecordCause::Flaw(fault) => {
+            write_number(out, b"relink: record flaw ", record_fault_number(fault))
+        }
+    }
+}
+
+/// The number of a fault of a record.
+fn record_fault_number(fault: &RecordFault) -> u32
+    ensures { result ≡ record_fault_number fault.now }
+{
+    match fault {
+        RecordFault::Length { .. } => 1,
+        RecordFault::Text { .. } => 2,
+        RecordFault::Digit { .. } => 3,
+        RecordFault::End => 4,
+    }
+}
+
+/// Writes that the kernel doesn't match its record, with both digests.
+fn write_mismatch<K: Sink>(
+    out: &mut K,
+    recorded: &[u8; 32],
+    found: &Option<[u8; 32]>,
+) -> Result<(), Failed>
+    ensures writes { Writes (mismatch_line recorded.now found.now) (K.meaning out.old) (K.meaning out.new) result }
+    ensures cause { HasCause (K.faults out.old) (K.faults out.new) result }
+{
+    write_digest(
+        out,
+        b"relink: /bsd does not match: recorded ",
+        recorded,
+        b" found ",
+    )?;
+    write_found(out, found)
+}
+
+/// Writes the digest that was found, or that there is no file.
+fn write_found<K: Sink>(out: &mut K, found: &Option<[u8; 32]>) -> Result<(), Failed>
+    ensures writes { Writes (found_words found.now) (K.meaning out.old) (K.meaning out.new) result }
+    ensures cause { HasCause (K.faults out.old) (K.faults out.new) result }
+{
+    match found {
+        Some(digest) => write_digest(out, b"", digest, b"\n"),
+        None => out.write(b"absent\n"),
+    }
+}
+
+/// Writes the 64 lower-case digits of a digest, with words before and behind them.
+fn write_digest<K: Sink>(
+    out: &mut K,
+    first: &[u8],
+    digest: &[u8; 32],
+    then: &[u8],
+) -> Result<(), Failed>
+    ensures writes { Writes (digest_words first.now digest.now then.now) (K.meaning out.old) (K.meaning out.new) result }
+    ensures cause { HasCause (K.faults out.old) (K.faults out.new) result }
+{
+    let mut digits = [0; 64];
+    hex::encode_to_slice(digest, &mut digits).unwrap();
+    write_pieces(out, &[first, &digits, then])
 }
 
 /// The number of a fault of a kit text.
@@ -78,7 +153,8 @@ fn write_kit<K: Sink>(out: &mut K, cause: &KitCause) -> Result<(), Failed>
         KitCause::Text(fault) => write_kit_fault(out, fault),
         KitCause::Absent(name) => write_file(out, b"relink: absent ", name),
         KitCause::TooLong(name) => write_file(out, b"relink: too long ", name),
-        KitCause::Total { line, .. } => write_total(out, *line),
+        KitCause::Kind => out.write(b"relink: wrong kind\n"),
+        KitCause::Total { line, .. } => write_number(out, b"relink: over limit line ", *line),
     }
 }
 
@@ -101,26 +177,19 @@ fn write_kit_fault<K: Sink>(out: &mut K, fault: &KitFault) -> Result<(), Failed>
 
 /// Writes some words and the name of a file.
 fn write_file<K: Sink>(out: &mut K, words: &[u8], name: &Name) -> Result<(), Failed>
-    ensures writes { Writes (words.now ++ name.now ++ codes "\n") (K.meaning out.old) (K.meaning out.new) result }
+    ensures writes { Writes (file_line words.now name.now) (K.meaning out.old) (K.meaning out.new) result }
     ensures cause { HasCause (K.faults out.old) (K.faults out.new) result }
 {
     write_pieces(out, &[words, name.bytes(), b"\n"])
 }
 
-/// Writes the line of the input that takes a kit past a limit.
-fn write_total<K: Sink>(out: &mut K, line: u32) -> Result<(), Failed>
-    ensures writes { Writes (codes "relink: over limit line " ++ decimal line ++ codes "\n") (K.meaning out.old) (K.meaning out.new) result }
+/// Writes some words and a number.
+fn write_number<K: Sink>(out: &mut K, words: &[u8], number: u32) -> Result<(), Failed>
+    ensures writes { Writes (numbered_line words.now number) (K.meaning out.old) (K.meaning out.new) result }
     ensures cause { HasCause (K.faults out.old) (K.faults out.new) result }
 {
-    let mut place = Buffer::new();
-    write_pieces(
-        out,
-        &[
-            b"relink: over limit line ",
-            place.format(line).as_bytes(),
-            b"\n",
-        ],
-    )
+    let mut digits = Buffer::new();
+    write_pieces(out, &[words, digits.format(number).as_bytes(), b"\n"])
 }
 
 /// Writes that an object isn't read, by its number and its line in the kit text.

@@ -5,6 +5,8 @@ mod cause;
 mod escaped;
 mod pieces;
 mod report;
+mod slots;
 
 pub use cause::write_cause;
-pub use report::{write_generate, write_link};
+pub use report::{write_generate, write_kernel, write_link};
+pub use slots::write_slots;

@@ -2,7 +2,7 @@
 ghost use Rattle.std.specs.Prelude.{◌≡◌};
 ghost use Rattle.kl_store.specs.Calls.{HasCause};
 ghost use Rattle.kl_store.specs.Outside.{Writes};
-ghost use Rattle.kl_lines.specs.Lines.{generate_line, link_line, report_line};
+ghost use Rattle.kl_lines.specs.Lines.{generate_line, kernel_line, link_line, report_line};
 
 use crate::pieces::write_pieces;
 use itoa::Buffer;
@@ -16,6 +16,14 @@ pub fn write_link<K: Sink>(out: &mut K, dir: &Name, report: &Report) -> Result<(
     ensures cause { HasCause (K.faults out.old) (K.faults out.new) result }
 {
     write_report(out, dir.bytes(), b" linked", report)
+}
+
+/// Writes that the kernel was linked and installed: `/bsd relinked pieces P fields F bytes B sha256 HEX`.
+pub fn write_kernel<K: Sink>(out: &mut K, report: &Report) -> Result<(), Failed>
+    ensures writes { Writes (kernel_line report.now) (K.meaning out.old) (K.meaning out.new) result }
+    ensures cause { HasCause (K.faults out.old) (K.faults out.new) result }
+{
+    write_report(out, b"/bsd", b" relinked", report)
 }
 
 /// Writes that a kit of `count` objects was made and linked: `generated N pieces P fields F bytes B sha256 HEX`.

@@ -1,7 +1,9 @@
-//! What is told a person of a command that was refused: one line or two, from its cause and from what stands in the kit's files.
+//! What is told a person of a command that was refused: one line or two, from its cause and from what stands in the files that it speaks of.
 #![tactic(auto)]
 
 mod link;
+mod record;
+mod slot;
 mod source;
 mod told;
 mod usage;

@@ -2,13 +2,16 @@
 ghost use Rattle.kl_store.specs.Calls.{Stays};
 
 use crate::link::{inputs_of, tell_fault};
+use crate::record::{tell_mismatch, tell_record};
+use crate::slot::{Unsound, read_entry, tell_foreign, tell_intent, tell_pending};
 use crate::source::{
     Archive, KitText, Source, find_archive, kit_order, read_kit_text, read_source,
 };
 use crate::usage::{is_of_system, tell_words};
 use kl_base::{INPUT_LIMIT, KIT_TEXT_LIMIT, Name, NoMemory};
 use kl_explain::{Shown, tell_flaw, tell_kit_text};
-use kl_jobs::{Cause, KitCause, ObjectCause};
+use kl_intent::Entry;
+use kl_jobs::{Cause, KERNEL_KIT, KitCause, ObjectCause};
 use kl_model::{KitInput, KitKind};
 use kl_rel::ReadFault;
 use kl_store::Store;
@@ -51,9 +54,11 @@ pub fn message<S: Store>(
         return Ok(text);
     }
     let again = read_again(alloc, ended, store)?;
+    let entry = read_entry(alloc, ended.cause, store);
     write!(text, "relink: ")?;
-    tell_cause(&mut text, ended, again.as_ref())?;
+    tell_cause(&mut text, ended, again.as_ref(), entry.as_ref())?;
     writeln!(text)?;
+    tell_job(&mut text, ended)?;
     tell_folder(&mut text, ended)?;
     Ok(text)
 }
@@ -65,7 +70,7 @@ fn is_of_kit(cause: &Cause) -> bool {
         Cause::Object { .. }
             | Cause::Link(_)
             | Cause::NotYet
-            | Cause::Kit(KitCause::Text(_) | KitCause::Total { .. })
+            | Cause::Kit(KitCause::Text(_) | KitCause::Kind | KitCause::Total { .. })
     )
 }
 
@@ -165,7 +170,7 @@ fn add_source<S: Store>(
     Ok(())
 }
 
-/// The folder of the kit whose files a cause speaks of: that of `link DIR`.
+/// The folder of the kit whose files a cause speaks of: that of `link DIR`, or the kernel's.
 fn folder_of(ended: &Ended<'_>) -> Option<Name> {
     if !is_of_kit(ended.cause) {
         return None;
@@ -174,25 +179,72 @@ fn folder_of(ended: &Ended<'_>) -> Option<Name> {
         [command, folder, ..] if command.as_slice() == b"link".as_slice() => {
             Name::from_bytes(folder).ok()
         }
+        [command, ..] if command.as_slice() == b"reorder_kernel".as_slice() => {
+            Name::from_bytes(&KERNEL_KIT).ok()
+        }
         _ => None,
     }
 }
 
-/// Tells a cause.
-fn tell_cause(text: &mut String, ended: &Ended<'_>, again: Option<&Again>) -> Result<(), NoMemory> {
-    match (ended.cause, again) {
-        (Cause::Usage, _) => match ended.words {
-            Some(words) => return tell_words(text, words),
-            None => write!(text, "a word isn't UTF-8")?,
-        },
-        (Cause::Store, _) => match ended.failure {
-            Some(failure) => {
-                let words = without_number(failure);
-                write!(text, "{words}")?;
-            }
-            None => write!(text, "a call on the disk failed")?,
-        },
-        (Cause::Kit(cause), _) => return tell_kit(text, cause, again),
+/// Tells a cause, from what was read again of the files that it speaks of.
+fn tell_cause(
+    text: &mut String,
+    ended: &Ended<'_>,
+    again: Option<&Again>,
+    entry: Option<&Entry>,
+) -> Result<(), NoMemory> {
+    match ended.cause {
+        Cause::Usage => tell_usage(text, ended.words),
+        Cause::Store => tell_failure(text, ended.failure),
+        Cause::Pending { slot } => tell_pending(text, *slot),
+        Cause::Record(cause) => tell_record(text, cause),
+        Cause::Mismatch { recorded, found } => tell_mismatch(text, recorded, found),
+        Cause::Foreign {
+            slot,
+            entry: number,
+            target,
+            temp,
+        } => {
+            let unsound = Unsound {
+                slot: *slot,
+                number: *number,
+                target: *target,
+                temp: *temp,
+            };
+            tell_foreign(text, &unsound, entry)
+        }
+        Cause::Intent { slot, line } => tell_intent(text, *slot, *line),
+        cause => tell_kit_cause(text, cause, again),
+    }
+}
+
+/// Tells what is wrong with the words.
+fn tell_usage(text: &mut String, words: Option<&[Vec<u8>]>) -> Result<(), NoMemory> {
+    match words {
+        Some(words) => tell_words(text, words),
+        None => {
+            write!(text, "a word isn't UTF-8")?;
+            Ok(())
+        }
+    }
+}
+
+/// Tells the last call that the host refused.
+fn tell_failure(text: &mut String, failure: Option<&str>) -> Result<(), NoMemory> {
+    match failure {
+        Some(failure) => {
+            let words = without_number(failure);
+            write!(text, "{words}")?;
+        }
+        None => write!(text, "a call on the disk failed")?,
+    }
+    Ok(())
+}
+
+/// Tells a cause of a kit, or one that no file explains.
+fn tell_kit_cause(text: &mut String, cause: &Cause, again: Option<&Again>) -> Result<(), NoMemory> {
+    match (cause, again) {
+        (Cause::Kit(cause), _) => tell_kit(text, cause, again),
         (
             Cause::Object {
                 input,
@@ -200,19 +252,16 @@ fn tell_cause(text: &mut String, ended: &Ended<'_>, again: Option<&Again>) -> Re
                 fault: ObjectCause::Elf(fault),
             },
             Some(again),
-        ) => {
-            return tell_object(text, again, (*input, *line), fault);
+        ) => tell_object(text, again, (*input, *line), fault),
+        (Cause::Link(fault), Some(again)) => {
+            tell_fault(text, &again.text, &again.sources, fault)
         }
-        (Cause::Link(fault), Some(again)) => return tell_fault(
-            text,
-            &again.text,
-            &again.sources,
-            fault,
-        ),
-        (Cause::NotYet, Some(again)) => return tell_not_yet(text, again),
-        (cause, _) => write!(text, "{cause}")?,
+        (Cause::NotYet, Some(again)) => tell_not_yet(text, again),
+        (cause, _) => {
+            write!(text, "{cause}")?;
+            Ok(())
+        }
     }
-    Ok(())
 }
 
 /// The words of the host's error, without its number behind them.
@@ -226,14 +275,6 @@ fn without_number(failure: &str) -> &str {
 /// Tells why a kit isn't read.
 fn tell_kit(text: &mut String, cause: &KitCause, again: Option<&Again>) -> Result<(), NoMemory> {
     match cause {
-        KitCause::Text(fault) => match again {
-            Some(again) => {
-                let name = Shown(again.text.name.bytes());
-                write!(text, "{name}: ")?;
-                tell_kit_text(text, &again.text.text, fault)?;
-            }
-            None => write!(text, "{fault}")?,
-        },
         KitCause::Absent(name) => {
             let name = Shown(name.bytes());
             write!(text, "{name}: no such file")?;
@@ -247,13 +288,25 @@ fn tell_kit(text: &mut String, cause: &KitCause, again: Option<&Again>) -> Resul
             let name = Shown(name.bytes());
             write!(text, "{name}: it has more than {limit} bytes")?;
         }
-        KitCause::Total { .. } => {
-            if let Some(again) = again {
-                let name = Shown(again.text.name.bytes());
-                write!(text, "{name}: ")?;
-            }
-            write!(text, "{cause}")?;
-        }
+        KitCause::Text(_) | KitCause::Kind | KitCause::Total { .. } => match again {
+            Some(again) => return tell_of_text(text, cause, again),
+            None => write!(text, "{cause}")?,
+        },
+    }
+    Ok(())
+}
+
+/// Tells what is wrong with a kit by its text, behind the name of its file.
+fn tell_of_text(text: &mut String, cause: &KitCause, again: &Again) -> Result<(), NoMemory> {
+    let name = Shown(again.text.name.bytes());
+    write!(text, "{name}: ")?;
+    match cause {
+        KitCause::Text(fault) => tell_kit_text(text, &again.text.text, fault)?,
+        KitCause::Kind => write!(
+            text,
+            "it is a library's kit ('kind library'), and a kernel's is wanted ('kind kernel')"
+        )?,
+        _ => write!(text, "{cause}")?,
     }
     Ok(())
 }
@@ -303,28 +356,52 @@ fn tell_not_yet(text: &mut String, again: &Again) -> Result<(), NoMemory> {
     Ok(())
 }
 
+/// Tells what comes next where a job on the files of the system was cut short, or was done and couldn't say so.
+fn tell_job(text: &mut String, ended: &Ended<'_>) -> Result<(), NoMemory> {
+    if !is_of_system_files(ended) {
+        return Ok(());
+    }
+    match ended.cause {
+        Cause::Store => writeln!(text, "relink: run 'relink recover' before anything else")?,
+        Cause::Sink => writeln!(
+            text,
+            "relink: the job was done all the same, and needn't be run again"
+        )?,
+        _ => {}
+    }
+    Ok(())
+}
+
 /// Tells the folder below which names are taken, where a name may have been meant for another one.
 fn tell_folder(text: &mut String, ended: &Ended<'_>) -> Result<(), NoMemory> {
     let Some(folder) = ended.folder else {
         return Ok(());
     };
     let shown = Shown(folder.as_bytes());
-    match ended.cause {
-        Cause::Kit(KitCause::Absent(_)) => {
+    if is_of_system_files(ended) {
+        if folder != "/" && !is_of_outside(ended.cause) {
             writeln!(
                 text,
-                "relink: names are taken below the folder in which it is started: {shown}"
+                "relink: it works on the files below the folder in which it is started, {shown}: start it in /"
             )?;
         }
-        _ => {}
+        return Ok(());
     }
-    if is_of_system_files(ended) && folder != "/" {
+    if let Cause::Kit(KitCause::Absent(_)) = ended.cause {
         writeln!(
             text,
-            "relink: it works on the files below the folder in which it is started, {shown}: start it in /"
+            "relink: names are taken below the folder in which it is started: {shown}"
         )?;
     }
     Ok(())
+}
+
+/// Whether neither words nor what stands in files explain a cause, and another folder wouldn't help.
+fn is_of_outside(cause: &Cause) -> bool {
+    matches!(
+        cause,
+        Cause::NoMemory | Cause::Store | Cause::Entropy | Cause::Sink
+    )
 }
 
 /// Whether the command works on the files of the system.

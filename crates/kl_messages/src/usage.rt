@@ -4,15 +4,18 @@ use kl_explain::{Shown, tell_name};
 use kl_generate::MADE_LIMIT;
 use std::fmt::Write;
 
-/// The commands that come later.
-const LATER: [&[u8]; 3] = [b"reorder_kernel", b"reorder_libs", b"recover"];
+/// The commands that work on the files of the system, of which `reorder_libs` comes later.
+const OF_SYSTEM: [&[u8]; 3] = [b"reorder_kernel", b"reorder_libs", b"recover"];
+
+/// What may stand behind `reorder_kernel`.
+const REORDER_TAKES: &str = "'reorder_kernel' takes '--seed HEX' alone";
 
 /// The number of digits of a seed.
 const SEED_DIGITS: usize = 64;
 
 /// Whether a command works on the files of the system, and not on a folder that is named.
 pub fn is_of_system(word: &[u8]) -> bool {
-    LATER.contains(&word)
+    OF_SYSTEM.contains(&word)
 }
 
 /// What is wrong with words that are no command.
@@ -24,9 +27,14 @@ pub fn tell_words(text: &mut String, words: &[Vec<u8>]) -> Result<(), NoMemory> 
         )?;
         return Ok(());
     };
-    match operand_of(command) {
-        Some(operand) => tell_operands(text, operand, rest),
-        None => tell_command(text, command),
+    if let Some(operand) = operand_of(command) {
+        tell_operands(text, operand, rest)
+    } else if command.as_slice() == b"reorder_kernel".as_slice() {
+        tell_reorder_words(text, rest)
+    } else if command.as_slice() == b"recover".as_slice() {
+        tell_recover_words(text, rest)
+    } else {
+        tell_command(text, command)
     }
 }
 
@@ -51,8 +59,8 @@ impl Operand {
     /// What may stand behind the command.
     fn taken(self) -> &'static str {
         match self {
-            Operand::Folder => "'link' takes one folder",
-            Operand::Count => "'generate' takes one number",
+            Operand::Folder => "'link' takes one folder, and '--seed HEX' behind it",
+            Operand::Count => "'generate' takes one number, and '--seed HEX' behind it",
         }
     }
 }
@@ -71,10 +79,10 @@ fn operand_of(command: &[u8]) -> Option<Operand> {
 /// What is wrong with a word that is no command, or none yet.
 fn tell_command(text: &mut String, command: &[u8]) -> Result<(), NoMemory> {
     let word = Shown(command);
-    if is_of_system(command) {
+    if command == b"reorder_libs".as_slice() {
         write!(
             text,
-            "the command '{word}' isn't there yet: 'link' and 'generate' are the only ones so far"
+            "the command '{word}' isn't there yet: 'link', 'reorder_kernel', 'recover' and 'generate' are the only ones so far"
         )?;
     } else {
         write!(
@@ -93,11 +101,47 @@ fn tell_operands(text: &mut String, operand: Operand, words: &[Vec<u8>]) -> Resu
             Ok(())
         }
         [word] => tell_operand(text, operand, word),
-        [word, option, values @ ..] if option.as_slice() == b"--seed".as_slice() => {
+        [word, option, values @ ..] if is_seed_option(option) => {
             tell_seeded_words(text, operand, word, values)
         }
-        [_, word, ..] => tell_one_too_many(text, operand, word),
+        [_, word, ..] => tell_one_too_many(text, word, operand.taken()),
     }
+}
+
+/// What is wrong with the words behind `reorder_kernel`.
+fn tell_reorder_words(text: &mut String, words: &[Vec<u8>]) -> Result<(), NoMemory> {
+    match words {
+        [option] if is_seed_option(option) => tell_no_seed(text),
+        [option, seed] if is_seed_option(option) => tell_seed(text, seed),
+        [option, _, word, ..] if is_seed_option(option) => {
+            tell_one_too_many(text, word, REORDER_TAKES)
+        }
+        [word, ..] => tell_one_too_many(text, word, REORDER_TAKES),
+        [] => tell_not_taken(text),
+    }
+}
+
+/// What is wrong with the words behind `recover`.
+fn tell_recover_words(text: &mut String, words: &[Vec<u8>]) -> Result<(), NoMemory> {
+    match words {
+        [option, ..] if is_seed_option(option) => {
+            write!(text, "'recover' takes no seed: leave '--seed' out")?;
+            Ok(())
+        }
+        [word, ..] => tell_one_too_many(text, word, "'recover' takes none"),
+        [] => tell_not_taken(text),
+    }
+}
+
+/// Tells of words that have no fault that is told.
+fn tell_not_taken(text: &mut String) -> Result<(), NoMemory> {
+    write!(text, "the words are no command")?;
+    Ok(())
+}
+
+/// Whether a word says that a seed follows.
+fn is_seed_option(word: &[u8]) -> bool {
+    word == b"--seed".as_slice()
 }
 
 /// What is wrong with the word behind a command.
@@ -126,25 +170,25 @@ fn tell_seeded_words(
     values: &[Vec<u8>],
 ) -> Result<(), NoMemory> {
     match values {
-        [] => {
-            write!(
-                text,
-                "'--seed' needs a seed of {SEED_DIGITS} hexadecimal digits behind it"
-            )?;
-            Ok(())
-        }
+        [] => tell_no_seed(text),
         [seed] if is_seed(seed) => tell_operand(text, operand, word),
         [seed] => tell_seed(text, seed),
-        [_, word, ..] => tell_one_too_many(text, operand, word),
+        [_, word, ..] => tell_one_too_many(text, word, operand.taken()),
     }
 }
 
-/// Tells of a word too many.
-fn tell_one_too_many(text: &mut String, operand: Operand, word: &[u8]) -> Result<(), NoMemory> {
-    let (word, taken) = (Shown(word), operand.taken());
+/// Tells of a word too many, and of those that are taken.
+fn tell_one_too_many(text: &mut String, word: &[u8], taken: &str) -> Result<(), NoMemory> {
+    let word = Shown(word);
+    write!(text, "the word '{word}' is one too many: {taken}")?;
+    Ok(())
+}
+
+/// Tells that the seed is missing.
+fn tell_no_seed(text: &mut String) -> Result<(), NoMemory> {
     write!(
         text,
-        "the word '{word}' is one too many: {taken}, and '--seed HEX' behind it"
+        "'--seed' needs a seed of {SEED_DIGITS} hexadecimal digits behind it"
     )?;
     Ok(())
 }

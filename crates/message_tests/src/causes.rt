@@ -65,8 +65,8 @@ fn tells_words(rt: HostRuntime) -> Result<(), Fail> {
             "the word 'now' is one too many: 'generate' takes one number, and '--seed HEX' behind it\n",
         ),
         (
-            b"recover",
-            "the command 'recover' isn't there yet: 'link' and 'generate' are the only ones so far\n\
+            b"reorder_libs",
+            "the command 'reorder_libs' isn't there yet: 'link', 'reorder_kernel', 'recover' and 'generate' are the only ones so far\n\
              relink: it works on the files below the folder in which it is started, /somewhere: start it in /\n",
         ),
         (

@@ -62,8 +62,19 @@ pub fn told(alloc: Global, cause: &Cause, store: &mut MemStore) -> Result<String
 }
 
 /// What is told of a cause of these words in the folder `/somewhere`.
-pub fn told_of_words<'a>(
+pub fn told_of_words(
     alloc: Global,
+    words: &[Vec<u8>],
+    cause: &Cause,
+    store: &mut MemStore,
+) -> Result<String, Fail> {
+    told_in(alloc, "/somewhere", words, cause, store)
+}
+
+/// What is told of a cause of these words in a folder.
+pub fn told_in<'a>(
+    alloc: Global,
+    folder: &'a str,
     words: &'a [Vec<u8>],
     cause: &'a Cause,
     store: &mut MemStore,
@@ -71,7 +82,7 @@ pub fn told_of_words<'a>(
     let ended = Ended {
         words: Some(words),
         cause,
-        folder: Some("/somewhere"),
+        folder: Some(folder),
         failure: None,
     };
     Ok(message(alloc, &ended, store)?)

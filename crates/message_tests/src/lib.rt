@@ -9,3 +9,5 @@ mod kit_texts;
 mod kits;
 #[cfg(test)]
 mod several;
+#[cfg(test)]
+mod system;

@@ -8,4 +8,10 @@ mod generated;
 #[cfg(test)]
 mod host;
 #[cfg(test)]
+mod kernels;
+#[cfg(test)]
+mod machine;
+#[cfg(test)]
+mod recoveries;
+#[cfg(test)]
 mod runs;

@@ -6,11 +6,12 @@ use kl_kit::{KitFault, Needed};
 use kl_mem::{ListEntropy, MemStore, VecSink};
 use kl_model::LinkFault;
 use kl_rel::{Feature, ReadFault, ReadKind};
+use kl_store::Store;
 use std::alloc::Global;
 use std::test::Fail;
 
 /// An object as `as` writes it, in hexadecimal digits: `.text` of f4 eb fd, aligned to 16, with GLOBAL `start` at 0.
-const OBJECT: &[u8] = b"\
+pub(crate) const OBJECT: &[u8] = b"\
     7f454c4602010100000000000000000001003e000100000000000000000000000000000000000000a0000000000000000000000040000000\
     0000400005000400f4ebfd000000000000000000000000000000000000000000000000000000000001000000100001000000000000000000\
     000000000000000000737461727400002e73796d746162002e737472746162002e7368737472746162002e74657874000000000000000000\
@@ -22,7 +23,7 @@ const OBJECT: &[u8] = b"\
     2100000000000000000000000000000001000000000000000000000000000000";
 
 /// Another one, of `call start` alone, aligned to 16.
-const CALL: &[u8] = b"\
+pub(crate) const CALL: &[u8] = b"\
     7f454c4602010100000000000000000001003e000100000000000000000000000000000000000000c0000000000000000000000040000000\
     0000400006000500e80000000000000000000000000000000000000000000000000000000000000001000000100000000000000000000000\
     0000000000000000007374617274000001000000000000000400000001000000fcffffffffffffff002e73796d746162002e737472746162\
@@ -92,19 +93,19 @@ fn object(alloc: Global) -> Result<Vec<u8>, Fail> {
     Ok(hex::decode(alloc, OBJECT)?)
 }
 
-/// The answer to words over a store, with a source of so many blocks and a sink that takes so many calls, and what was written.
-pub(crate) fn answer_with(
+/// The answer to words over a store, with a source of these blocks and a sink that takes so many calls, and what was written.
+pub(crate) fn answer_with<S: Store>(
     alloc: Global,
     words: &[&[u8]],
-    store: &mut MemStore,
-    blocks: usize,
+    store: &mut S,
+    blocks: &[[u8; 32]],
     writes: u64,
 ) -> Result<(Exit, VecSink), Fail> {
     let mut given = Vec::new(alloc);
     for word in words {
         given.push(Vec::from_slice(alloc, word)?)?;
     }
-    let mut entropy = ListEntropy::new(vec![in alloc; SEED; blocks]?);
+    let mut entropy = ListEntropy::new(Vec::from_slice(alloc, blocks)?);
     let mut out = VecSink::new(alloc);
     out.fail_from(writes);
     let exit = run(alloc, &given, store, &mut entropy, &mut out);
@@ -112,12 +113,12 @@ pub(crate) fn answer_with(
 }
 
 /// The answer to words over a store, with a source that gives `SEED` once.
-pub(crate) fn answer(
+pub(crate) fn answer<S: Store>(
     alloc: Global,
     words: &[&[u8]],
-    store: &mut MemStore,
+    store: &mut S,
 ) -> Result<(Exit, VecSink), Fail> {
-    answer_with(alloc, words, store, 1, u64::MAX)
+    answer_with(alloc, words, store, &[SEED], u64::MAX)
 }
 
 /// A store with a kit text and an object in the folder `/kit`.
@@ -164,7 +165,8 @@ fn is_linked(store: &MemStore) -> Result<bool, Fail> {
 fn links_by_a_given_seed_or_a_block(rt: HostRuntime) -> Result<(), Fail> {
     let alloc = rt.alloc();
     let given: [&[u8]; 4] = [b"link", b"/kit", b"--seed", DIGITS];
-    for (count, blocks) in [(4, 0), (2, 1)] {
+    let rows: [(usize, &[[u8; 32]]); 2] = [(4, &[]), (2, &[SEED])];
+    for (count, blocks) in rows {
         let mut store = kit_store(alloc, KIT, &object(alloc)?)?;
         let (exit, out) = answer_with(alloc, &given[..count], &mut store, blocks, u64::MAX)?;
         assert_eq!(rt;
@@ -172,7 +174,8 @@ fn links_by_a_given_seed_or_a_block(rt: HostRuntime) -> Result<(), Fail> {
             (0, Cause::Done, 0)
         );
         assert_eq!(rt; out.bytes(), LINE);
-        assert!(rt; is_linked(&store)?);
+        // the crash that carries out no change which isn't settled
+        assert!(rt; is_linked(&store.crash(alloc, 0)?)?);
     }
     Ok(())
 }
@@ -181,14 +184,14 @@ fn links_by_a_given_seed_or_a_block(rt: HostRuntime) -> Result<(), Fail> {
 fn tells_faults_of_the_source_and_the_sink(rt: HostRuntime) -> Result<(), Fail> {
     let alloc = rt.alloc();
     let mut store = kit_store(alloc, KIT, &object(alloc)?)?;
-    let (exit, out) = answer_with(alloc, &[b"link", b"/kit"], &mut store, 0, u64::MAX)?;
+    let (exit, out) = answer_with(alloc, &[b"link", b"/kit"], &mut store, &[], u64::MAX)?;
     assert_eq!(rt; (exit.status, exit.cause), (5, Cause::Entropy));
     assert_eq!(rt; out.bytes(), b"relink: entropy fault\n".as_slice());
     assert_eq!(rt; store.get(&named(b"/kit/linked.relink")?), None);
-    let (exit, out) = answer_with(alloc, &[b"link", b"/kit"], &mut store, 1, 0)?;
+    let (exit, out) = answer_with(alloc, &[b"link", b"/kit"], &mut store, &[SEED], 0)?;
     assert_eq!(rt; (exit.status, exit.cause), (6, Cause::Sink));
     assert_eq!(rt; out.bytes(), b"".as_slice());
-    assert!(rt; is_linked(&store)?);
+    assert!(rt; is_linked(&store.crash(alloc, 0)?)?);
     Ok(())
 }
 
@@ -232,7 +235,7 @@ fn links_in_the_drawn_order(rt: HostRuntime) -> Result<(), Fail> {
 #[test]
 fn tells_usage(rt: HostRuntime) -> Result<(), Fail> {
     let alloc = rt.alloc();
-    let cases: [&[&[u8]]; 17] = [
+    let cases: [&[&[u8]]; 19] = [
         &[],
         &[b"link"],
         &[b"link", b"kit"],
@@ -240,6 +243,8 @@ fn tells_usage(rt: HostRuntime) -> Result<(), Fail> {
         &[b"link", LONG],
         &[b"link", b"/kit", b"/kit"],
         &[b"reorder_kernel", b"/kit"],
+        &[b"reorder_kernel", b"--seed", &DIGITS[1..]],
+        &[b"recover", b"--seed", DIGITS],
         &[b"link", b"/kit", b"--seed"],
         &[b"link", b"/kit", b"--seed", &DIGITS[1..]],
         &[b"link", b"/kit", b"--seed", LONG],

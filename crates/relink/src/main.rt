@@ -20,7 +20,7 @@ fn main(rt: HostRuntime) -> ExitCode {
         Ok(words) => (words, true),
         Err(e) if e.kind() == ErrorKind::OutOfMemory => {
             messages::tell_no_memory(&rt);
-            return code_of(&Exit::of(Cause::NoMemory));
+            return code_of(&Exit::of(Cause::NoMemory, 0));
         }
         // a word that isn't UTF-8 is no command
         Err(_) => (Vec::new(alloc), false),

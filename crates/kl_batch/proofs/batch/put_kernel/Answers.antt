@@ -7,7 +7,7 @@ use Rattle.kl_batch.specs.Batches.{kernel_files}
 use Rattle.kl_batch.specs.Together.{file}
 use Rattle.kl_batch.specs.declared.names.TheConstants.{KERNEL, KERNEL_MAP, KERNEL_RECORD}
 use Rattle.kl_batch.proofs.Placing.{commit_keeps, fails, free_disk, installs_at, staged_fails, staged_first, staged_next, stage_keeps}
-use Rattle.kl_batch.proofs.Prefixes.{kernel_crash, kernel_done}
+use Rattle.kl_batch.proofs.Prefixes.{kernel_crash, kernel_done, kernel_stop}
 use Rattle.kl_batch.proofs.batch.put_kernel.Goals as goal
 
 pub returns-in_err-stage-clause-installs : goal.returns-in_err-stage-clause-installs
@@ -47,6 +47,18 @@ returns-in_err-stage-3-clause-crash g c = λ p batch. kernel_crash p _ _ _ batch
 
 pub returns-clause-crash : goal.returns-clause-crash
 returns-clause-crash g c = λ p batch. kernel_crash p _ _ _ batch (free_disk (g.S.Store.meaning c.args.store.now) Kernel c.requires.free) (returns-clause-installs g c)
+
+pub returns-in_err-stage-clause-stopped : goal.returns-in_err-stage-clause-stopped
+returns-in_err-stage-clause-stopped g c = λ p batch. kernel_stop p _ _ _ batch (free_disk (g.S.Store.meaning c.args.store.now) Kernel c.requires.free) (returns-in_err-stage-clause-installs g c)
+
+pub returns-in_err-stage-2-clause-stopped : goal.returns-in_err-stage-2-clause-stopped
+returns-in_err-stage-2-clause-stopped g c = λ p batch. kernel_stop p _ _ _ batch (free_disk (g.S.Store.meaning c.args.store.now) Kernel c.requires.free) (returns-in_err-stage-2-clause-installs g c)
+
+pub returns-in_err-stage-3-clause-stopped : goal.returns-in_err-stage-3-clause-stopped
+returns-in_err-stage-3-clause-stopped g c = λ p batch. kernel_stop p _ _ _ batch (free_disk (g.S.Store.meaning c.args.store.now) Kernel c.requires.free) (returns-in_err-stage-3-clause-installs g c)
+
+pub returns-clause-stopped : goal.returns-clause-stopped
+returns-clause-stopped g c = λ p batch. kernel_stop p _ _ _ batch (free_disk (g.S.Store.meaning c.args.store.now) Kernel c.requires.free) (returns-clause-installs g c)
 
 pub returns-clause-installed : goal.returns-clause-installed
 returns-clause-installed g c = λ p batch. kernel_done p _ _ _ batch (free_disk (g.S.Store.meaning c.args.store.now) Kernel c.requires.free) (returns-clause-installs g c)

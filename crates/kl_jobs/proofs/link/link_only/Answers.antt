@@ -1,4 +1,4 @@
-use Rattle.std.proofs.Common.{◌≡◌, ◌∙◌, refl, inl, inr}
+use Rattle.std.proofs.Common.{◌∙◌, refl, inl, inr}
 use Rattle.std.specs.Prelude.{None}
 use Rattle.std.proofs.lemmas.Result.{err_from_is_err_and}
 use Rattle.kl_store.specs.Disk.{names_now}
@@ -10,7 +10,7 @@ use Rattle.kl_jobs.proofs.link.link_only.Goals as goal
 pub returns-in_err-write_pair-clause-refused : goal.returns-in_err-write_pair-clause-refused
 returns-in_err-write_pair-clause-refused g c =
     let r = err_from_is_err_and c.from_residual-in_err-write_pair.result c.from_residual-in_err-write_pair.ensures.1 in
-    rw (r.1, r.2) (λ m told. inl (inl (inr refl)))
+    rw (r.1, r.2) (λ m told. inl (inr refl))
 
 pub returns-in_err-write_pair-clause-images : goal.returns-in_err-write_pair-clause-images
 returns-in_err-write_pair-clause-images g c = stays_then c.read_source.ensures.still c.write_pair.ensures.images
@@ -46,7 +46,7 @@ pub returns-clause-stands : goal.returns-clause-stands
 returns-clause-stands g c = λ m told.
     let source = c.in_ok-source.source in
     let reads = c.in_ok-source.ensures.reads m told in
-    ends_linking c.args.seed _ _ m c.args.dir.now source.seed source.kit c.in_ok-source.ensures.seed reads.kit_is reads.text source.inputs.items None reads.inputs_are reads.lines
+    ends_linking c.args.seed _ _ None m c.args.dir.now source.seed source.kit c.in_ok-source.ensures.seed reads.kit_is reads.text source.inputs.items None reads.inputs_are reads.lines
     c.in_ok-linked.ensures.sound
 
 pub returns-clause-images : goal.returns-clause-images

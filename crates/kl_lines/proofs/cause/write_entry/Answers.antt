@@ -1,4 +1,4 @@
-use Rattle.std.proofs.Common.{◌≡◌, rules}
+use Rattle.std.proofs.Common.{rules}
 use Rattle.kl_lines.specs.Lines.{entry_place, link_start}
 use Rattle.kl_lines.proofs.Taking.{writes_stop, writes_then}
 use Rattle.kl_lines.proofs.cause.write_entry.Goals as goal

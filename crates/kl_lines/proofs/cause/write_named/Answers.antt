@@ -1,4 +1,4 @@
-use Rattle.std.proofs.Common.{◌≡◌, ◌++◌, refl, rules}
+use Rattle.std.proofs.Common.{◌++◌, refl, rules}
 use Rattle.std.specs.Prelude.{codes}
 use Rattle.kl_lines.specs.Escaped.{escaped}
 use Rattle.kl_lines.specs.Lines.{link_start}

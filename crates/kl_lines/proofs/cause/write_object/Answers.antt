@@ -1,4 +1,3 @@
-use Rattle.std.proofs.Common.{◌≡◌}
 use Rattle.kl_lines.proofs.cause.write_object.Goals as goal
 
 pub returns-clause-writes : goal.returns-clause-writes

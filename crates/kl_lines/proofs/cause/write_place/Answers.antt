@@ -1,4 +1,3 @@
-use Rattle.std.proofs.Common.{◌≡◌}
 use Rattle.kl_lines.proofs.cause.write_place.Goals as goal
 
 pub returns-clause-writes : goal.returns-clause-writes

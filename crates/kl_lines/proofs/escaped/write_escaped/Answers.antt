@@ -1,6 +1,5 @@
-use Rattle.std.proofs.Common.{◌≡◌, ◌≤◌, ◌++◌, ◌∙◌, List, ℕ, ap, subst, sym, rules, arith, append_assoc}
+use Rattle.std.proofs.Common.{◌≡◌, ◌++◌, ◌∙◌, List, ℕ, ap, sym, rules, arith, append_assoc}
 use Rattle.std.proofs.lemmas.Grind.{flat_map-append}
-use Rattle.kl_store.specs.Outside.{Takes}
 use Rattle.kl_lines.specs.Escaped.{escaped, escaped_byte}
 use Rattle.kl_lines.proofs.Taking.{takes_part, takes_then, writes_fail}
 use Rattle.kl_lines.proofs.escaped.write_escaped.Goals as goal
