@@ -1,6 +1,7 @@
 """bench.py RELINK FOLDER: measures RELINK and the linkers that are installed on kits below FOLDER, on one processor and one thread, and
 prints tables of processor seconds and memory, each the least of some runs, which take turns."""
 
+import hashlib
 import os
 import shutil
 import subprocess
@@ -86,16 +87,30 @@ def for_linker(name, options):
     return [f"--image-base={ADDRESS:#x}" if name == "mold" and option.startswith("-Ttext=") else option for option in options]
 
 
+def machine(relink, folder):
+    """Makes the folder a machine's root, whose kernel is linked from the kit."""
+    os.makedirs(os.path.join(folder, "usr/share/relink"))
+    os.makedirs(os.path.join(folder, "var/db"))
+    os.symlink(os.path.join(folder, "kit"), os.path.join(folder, "usr/share/relink/kernel"))
+    subprocess.run([relink, "link", "/kit"], cwd=folder, check=True, stdout=subprocess.DEVNULL)
+    kernel = os.path.join(folder, "bsd")
+    os.rename(os.path.join(folder, "kit/linked.relink"), kernel)
+    with open(kernel, "rb") as file, open(os.path.join(folder, "var/db/kernel.SHA256"), "w") as record:
+        record.write(f"SHA256 (/bsd) = {hashlib.sha256(file.read()).hexdigest()}\n")
+
+
 def linked(relink, root, count):
     folder = new_folder(root, "linked")
     names = [f"{n // 100}/{n}.o" for n in range(count)]
     for n, name in enumerate(names):
         write(folder, name, objects.common_object(n, count))
     kit_of(folder, names)
+    machine(relink, folder)
     options = [f"-Ttext={ADDRESS:#x}", "-e", "start", "-static", "-Map=map"]
+    own = [("relink link", [relink, "link", "/kit"], (LINKED,)), ("relink reorder_kernel", [relink, "reorder_kernel"], (LINKED,))]
     compare(
         f"{count:,} objects of {len(objects.common_object(1, count)):,} bytes, linked with a map",
-        [("relink link", [relink, "link", "/kit"], (LINKED,))] + [(name.split()[0], words, wanted) for name, words, wanted in peers(options)],
+        own + [(name.split()[0], words, wanted) for name, words, wanted in peers(options)],
         folder,
     )
     write(folder, "bss.o", objects.bss((1 << 29) + 1))
