@@ -1,0 +1,6 @@
+mod Cutting
+mod Digits
+mod Ends
+mod Grammars
+mod Rows
+mod Walks
