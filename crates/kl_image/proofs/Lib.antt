@@ -1,0 +1,11 @@
+pub mod Examples
+pub mod FlawLists
+pub mod SegmentFlaws
+pub mod FilePlaces
+pub mod Entries
+pub mod Memories
+pub mod SectionFacts
+pub mod EntryFlaws
+pub mod Whole
+pub mod Loads
+pub mod TableLoads
