@@ -118,6 +118,13 @@ slots-few fs =
     let same = length-map (filter takes fs) (λ (x : Field). x.target) in
     let passing = filter-le takes fs in omega (arith, few, same, passing)
 
+pub stubs-few : (fs : List Field) → length (stubs_of fs) ≤ length fs
+stubs-few fs =
+    let takes = λ (x : Field). takes_stub (way_of x) in
+    let few = once-le nat_eq (map (λ (x : Field). name_of x.target) (filter takes fs)) in
+    let same = length-map (filter takes fs) (λ (x : Field). name_of x.target) in
+    let passing = filter-le takes fs in omega (arith, few, same, passing)
+
 -- a stub's name is one of the graph's
 no_stub : (kind : ℕ) (t : Target) → (b : Bool) → is_slot_kind kind ≡ b → takes_stub (way kind t) ≡ true → (n : ℕ) × (t ≡ Name n)
 no_stub kind (Place n k) true e h = let no : false ≡ true = rw e at h in cc

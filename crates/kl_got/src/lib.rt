@@ -10,4 +10,4 @@ mod way;
 pub use fields::needs;
 pub use index::SlotIndex;
 pub use stub::{JUMP_SIZE, stub_bytes};
-pub use way::takes_slot;
+pub use way::{stub_name, takes_slot};

@@ -19,7 +19,7 @@ use Rattle.kl_model.specs.declared.place.Gaps.{Gaps}
 use Rattle.kl_model.specs.declared.place.LinePart.{LinePart}
 use Rattle.kl_model.specs.declared.place.Made.{Made}
 use Rattle.kl_model.proofs.Each.{each-all}
-use Rattle.kl_write.specs.LaidKernel.{HasAreaAddresses}
+use Rattle.kl_write.specs.LaidKits.{HasAreaAddresses}
 
 abbrev IsSmall : AreaAt → Type 0
 IsSmall x = (x.start < 2 ^ 64) × (x.end < 2 ^ 64)

@@ -1,6 +1,5 @@
 pub mod AreaAddresses
 pub mod Sources
-pub mod ImageMade
 pub mod LinkFaults
 pub mod LinkSteps
 pub mod OneTargets
@@ -8,3 +7,4 @@ pub mod RoomyValues
 pub mod RoomyFields
 pub mod NameFaults
 pub mod RoomyKits
+pub mod KernelMade

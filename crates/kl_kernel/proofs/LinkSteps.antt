@@ -19,15 +19,16 @@ use Rattle.kl_model.specs.declared.graph.Graph.{Graph}
 use Rattle.kl_model.specs.declared.graph.Piece.{Piece}
 use Rattle.kl_model.specs.declared.graph.PieceId.{PieceId}
 use Rattle.kl_model.specs.declared.kit.Kit.{Kit}
-use Rattle.kl_model.specs.declared.kit.KitKind.TheVariants.{Kernel}
+use Rattle.kl_model.specs.declared.kit.KitKind.TheVariants.{Kernel, Library}
+use Rattle.kl_model.specs.declared.kit.KitKind.{KitKind}
 use Rattle.kl_model.specs.declared.object.Input.{Input}
 use Rattle.kl_model.specs.declared.place.Gaps.{Gaps}
 use Rattle.kl_model.specs.declared.place.Made.{Made}
 use Rattle.kl_model.specs.declared.place.Placed.{Placed}
 use Rattle.kl_model.specs.declared.place.Placement.{Placement}
-use Rattle.kl_write.specs.LaidKernel.{HasAreaAddresses, HaveSources, IsLaidKernel}
+use Rattle.kl_write.specs.LaidKits.{HasAreaAddresses, HaveSources, IsLaidKit}
 use Rattle.kl_write.proofs.LawFields.{carries_graph, no_range_faults}
-use Rattle.kl_write.proofs.KernelValues.{few_slots}
+use Rattle.kl_write.proofs.FewSlots.{few_slots}
 use Rattle.kl_write.proofs.WholeOrder.{whole_order}
 use Rattle.kl_kernel.proofs.AreaAddresses.{area_addresses}
 use Rattle.kl_kernel.proofs.LinkFaults.{of_range, of_span}
@@ -38,6 +39,10 @@ placed_pair x = (x.id, x.size)
 
 abbrev piece_pair : Piece → PieceId × ℕ
 piece_pair x = (x.id, x.size)
+
+-- a kernel's kit is no library's
+never_both : {X : Type 0} (k : KitKind) → k ≡ Kernel → k ≡ Library → X
+never_both k e f = let no : Kernel ≡ Library = sym e ∙ f in cc
 
 module _ (kit : Kit) (inputs : List Input) (gaps : Option Gaps) (order : List ℕ) (is_kit : IsKit kit) (kernel : kit.kind ≡ Kernel) (fit : AreFit inputs)
     (o : IsOrder (drawn_count (map (λ x. x.place) inputs)) order) (g : Graph) (is : g ≡ graph kit inputs) (sound : IsSoundGraph kit g) where
@@ -84,10 +89,10 @@ module _ (kit : Kit) (inputs : List Input) (gaps : Option Gaps) (order : List �
         let gap_count = few_gaps gaps in
         omega arith
 
-    pub laid_kernel : IsLaidKernel kit g gaps order p
+    pub laid_kernel : IsLaidKit kit g gaps order p
     laid_kernel = record {
-      kernel = kernel;
       base = (is_kit.kernel kernel).base_limit;
+      origin = λ library. never_both kit.kind kernel library;
       sound = sound;
       whole = graph_order;
       laid = rw made_is at laid;
@@ -106,5 +111,5 @@ module _ (kit : Kit) (inputs : List Input) (gaps : Option Gaps) (order : List �
         pub carries_kit : (img : List ℕ) → img ≡ image_bytes kit inputs g gaps p → Carries img p kit inputs gaps order
         carries_kit img made_so =
             let l = laid_kernel in
-            let carried = carries_graph kit inputs g gaps order p l.kernel l.laid l.small l.base l.sound (whole_order g order l.whole) addresses (no_range_faults p g fits) l.names in
+            let carried = carries_graph kit inputs g gaps order p l.origin l.laid l.small l.base l.sound (whole_order g order l.whole) addresses kernel (no_range_faults p g fits) l.names in
             subst (λ h. CarriesGraph img p kit inputs h gaps order) is (subst (λ i. CarriesGraph i p kit inputs g gaps order) (sym made_so) carried)

@@ -15,7 +15,7 @@ use Rattle.kl_model.specs.declared.object.Section.{Section}
 use Rattle.kl_model.specs.declared.kit.Kit.{Kit}
 use Rattle.kl_model.proofs.Each.{each-all}
 use Rattle.kl_sym.proofs.KeptPieces.{all_pieces, own}
-use Rattle.kl_write.specs.LaidKernel.{HaveSources}
+use Rattle.kl_write.specs.LaidKits.{HaveSources}
 
 abbrev HasOwn : List Input → Piece → Type 0
 HasOwn inputs x = 0 < x.bytes.len → HasSource inputs x.bytes x.id

@@ -1,17 +1,20 @@
 // What the linker makes in a kernel, and the image.
-ghost use Rattle.std.specs.Prelude.{ℕ, List, ◌≡◌, ◌⊎◌, ◌<◌, ◌^◌, [], length, map, slice_get, IfErr, IfOk, OnOk, Some};
+ghost use Rattle.std.specs.Prelude.{ℕ, List, Option, ◌≡◌, ◌⊎◌, ◌<◌, ◌^◌, [], length, slice_get, IfErr, IfOk, OnOk, Some};
 ghost use Rattle.std.specs.Option.{option_copied};
 ghost use Rattle.kl_model.specs.Faults.{range_faults};
 ghost use Rattle.kl_model.specs.Image.{image_bytes};
-ghost use Rattle.kl_model.specs.Leads.{address_of, filed_value};
 ghost use Rattle.kl_model.specs.Sizes.{made_of};
-ghost use Rattle.kl_model.specs.Slots.{slots as slots_of};
+ghost use Rattle.kl_model.specs.Slots.{slots as slots_of, stubs as stubs_of};
+ghost use Rattle.kl_model.specs.Tables.{made_bytes as bytes_of_area};
+ghost use Rattle.kl_model.specs.declared.area.TheConstants as area;
 ghost use Rattle.kl_model.specs.declared.kit.KitKind.TheVariants.{Kernel};
-ghost use Rattle.kl_write.specs.LaidKernel.{HasAreaAddresses, HaveSources, IsLaidKernel, kernel_headers};
+ghost use Rattle.kl_model.specs.declared.object.Input.{Input};
+ghost use Rattle.kl_model.specs.declared.place.Gaps.{Gaps};
+ghost use Rattle.kl_write.specs.LaidKits.{HasAreaAddresses, HaveSources, IsLaidKit};
 
-use kl_base::NoMemory;
-use kl_model::{Gaps, Graph, Input, Kit, LinkFault, Made, Placement, Target};
-use kl_write::{Plan, SLOT_SIZE, field_values, fill, headers, image_size, slot_addresses};
+use kl_base::{NoMemory, PAGE};
+use kl_model::{Gaps, Graph, Input, Kit, LinkFault, Made, Needs, Placement, Target};
+use kl_write::{MadeBytes, Plan, SLOT_SIZE, field_values, headers, image, slot_bytes};
 use std::alloc::Global;
 
 /// The sizes of the areas that the linker makes in a kernel. `slots` has the targets that need a slot of the global offset table.
@@ -27,23 +30,32 @@ pub fn made_areas(slots: &[Target]) -> Made
     }
 }
 
-/// The bytes that a plan gives.
-fn filled(alloc: Global, inputs: &[Input], plan: &Plan) -> Result<Vec<u8>, NoMemory>
-    requires laid { (order : List ℕ) × IsLaidKernel plan.now.kit.now plan.now.graph.now plan.now.gaps order plan.now.placement.now }
-    requires addresses { HasAreaAddresses plan.now.placement.now }
-    requires sources { HaveSources inputs.now plan.now.graph.now }
-    requires head { plan.now.head.items ≡ kernel_headers plan.now.placement.now plan.now.graph.now }
-    requires slots { plan.now.slots.items ≡ map (address_of plan.now.placement.now plan.now.graph.now) (slots_of plan.now.graph.now) }
-    requires values { plan.now.values.items ≡ map (filed_value plan.now.kit.now plan.now.placement.now plan.now.graph.now) plan.now.graph.now.fields }
-    ensures { IfOk result (λ v. v.items ≡ image_bytes plan.now.kit.now inputs.now plan.now.graph.now plan.now.gaps plan.now.placement.now) }
+/// The bytes of the areas that the linker makes in a kernel: only the global offset table has some.
+fn made_bytes(
+    alloc: Global,
+    kit: &Kit,
+    graph: &Graph,
+    placement: &Placement,
+    slots: &[Target],
+) -> Result<MadeBytes, NoMemory>
+    requires kernel { kit.now.kind ≡ Kernel }
+    requires laid { (gaps : Option Gaps) × (order : List ℕ) × IsLaidKit kit.now graph.now gaps order placement.now }
+    requires addresses { HasAreaAddresses placement.now }
+    requires slots { slots.now ≡ slots_of graph.now }
+    ensures stubs { IfOk result (λ m. (inputs : List Input) → m.stubs.items ≡ bytes_of_area kit.now inputs graph.now placement.now area.STUBS) }
+    ensures tables { IfOk result (λ m. (inputs : List Input) → m.tables.items ≡ bytes_of_area kit.now inputs graph.now placement.now area.TABLES) }
+    ensures got { IfOk result (λ m. (inputs : List Input) → m.got.items ≡ bytes_of_area kit.now inputs graph.now placement.now area.GOT) }
+    ensures dynamic { IfOk result (λ m. (inputs : List Input) → m.dynamic.items ≡ bytes_of_area kit.now inputs graph.now placement.now area.DYNAMIC) }
 {
-    let size = image_size(plan.placement, plan.head.len());
-    let mut image = vec![in alloc; 0; size]?;
-    fill(&mut image, 0, inputs, plan);
-    Ok(image)
+    Ok(MadeBytes {
+        stubs: Vec::new(alloc),
+        tables: Vec::new(alloc),
+        got: slot_bytes(alloc, kit, graph, placement, slots)?,
+        dynamic: Vec::new(alloc),
+    })
 }
 
-/// The image of a kernel whose graph is laid out. `slots` has the targets that need a slot of the global offset table, by number.
+/// The image of a kernel whose graph is laid out. `needs` has what the graph needs.
 ///
 /// # Errors
 ///
@@ -55,25 +67,27 @@ pub fn kernel_image(
     gaps: Option<&Gaps>,
     graph: &Graph,
     placement: &Placement,
-    slots: &[Target],
+    needs: &Needs,
 ) -> Result<Vec<u8>, LinkFault>
-    requires laid { (order : List ℕ) × IsLaidKernel kit.now graph.now (option_copied gaps) order placement.now }
+    requires kernel { kit.now.kind ≡ Kernel }
+    requires laid { (order : List ℕ) × IsLaidKit kit.now graph.now (option_copied gaps) order placement.now }
     requires addresses { HasAreaAddresses placement.now }
     requires sources { HaveSources inputs.now graph.now }
-    requires slots { slots.now ≡ slots_of graph.now }
+    requires slots { needs.now.slots ≡ slots_of graph.now }
+    requires stubs { needs.now.stubs ≡ stubs_of graph.now }
     ensures image { IfOk result (λ v. v.items ≡ image_bytes kit.now inputs.now graph.now (option_copied gaps.entry) placement.now) }
     ensures sound { OnOk result (range_faults placement.now graph.now ≡ []) }
     ensures err { IfErr result (λ e. (e ≡ LinkFault.NoMemory) ⊎ (slice_get (range_faults placement.now graph.now) 0 ≡ Some e)) }
 {
-    let values = field_values(alloc, graph, placement, slots)?;
+    let values = field_values(alloc, kit, graph, placement, needs)?;
     let plan = Plan {
         kit,
         graph,
         gaps: gaps.copied(),
         placement,
-        head: headers(alloc, graph, placement)?,
-        slots: slot_addresses(alloc, graph, placement, slots)?,
+        head: headers(alloc, kit, graph, placement, PAGE)?,
+        made: made_bytes(alloc, kit, graph, placement, needs.slots.items())?,
         values,
     };
-    Ok(filled(alloc, inputs, &plan)?)
+    Ok(image(alloc, inputs, &plan)?)
 }

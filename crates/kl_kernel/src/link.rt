@@ -48,9 +48,9 @@ pub fn link_kernel(
 {
     let graph = resolve(alloc, kit, inputs)?;
     let needs = needs(alloc, kit, &graph)?;
-    let slots = needs.slots.items();
-    let placement = place(alloc, kit, &graph, gaps, order, &made_areas(slots))?;
-    let image = kernel_image(alloc, kit, inputs, gaps, &graph, &placement, slots)?;
+    let made = made_areas(needs.slots.items());
+    let placement = place(alloc, kit, &graph, gaps, order, &made)?;
+    let image = kernel_image(alloc, kit, inputs, gaps, &graph, &placement, &needs)?;
     let fields = graph.fields.items().len() as u32;
     Ok(Linked {
         image,

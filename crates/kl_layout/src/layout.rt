@@ -8,6 +8,7 @@ ghost use Rattle.kl_model.specs.Laid.{reach};
 ghost use Rattle.kl_model.specs.Line.{classes};
 ghost use Rattle.kl_model.specs.Lists.{up};
 ghost use Rattle.kl_model.specs.Sizes.{page_for, page_of, text_from};
+ghost use Rattle.kl_model.specs.Sound.{IsSoundGraph};
 ghost use Rattle.kl_model.specs.declared.area.TheConstants as area;
 ghost use Rattle.kl_layout.specs.Once.{AreOnce};
 ghost use Rattle.kl_layout.specs.Stops.{AreListed, IsPart, IsStep, listed_from, listed_line, room};
@@ -18,7 +19,7 @@ use kl_base::{Class, Listed, NoMemory, PAGE};
 use kl_model::{AreaAt, Graph, Kit, KitKind, LinePart};
 use std::alloc::Global;
 
-/// The page of a kit, in bytes: in a library the greatest alignment of a piece, where that is more.
+/// The page of a kit, whose pieces are aligned to powers of two.
 fn page_of(kit: &Kit, graph: &Graph) -> u64
     requires { All (λ x. IsStep x.align) graph.now.pieces }
     ensures value { result ≡ page_of kit.now graph.now }
@@ -28,6 +29,14 @@ fn page_of(kit: &Kit, graph: &Graph) -> u64
         KitKind::Kernel => PAGE,
         KitKind::Library => greatest_align(graph),
     }
+}
+
+/// The page of a kit, in bytes: `PAGE`, in a library the greatest alignment of a piece, where that is more.
+pub fn page(kit: &Kit, graph: &Graph) -> u64
+    requires { IsSoundGraph kit.now graph.now }
+    ensures { result ≡ page_of kit.now graph.now }
+{
+    page_of(kit, graph)
 }
 
 /// The greatest alignment of a piece, and a page at least.

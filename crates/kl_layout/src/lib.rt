@@ -12,4 +12,5 @@ mod stops;
 
 pub use fault::LayoutFault;
 pub use laws::one_placement;
+pub use layout::page;
 pub use placement::place;

@@ -33,8 +33,8 @@ use Rattle.kl_model.specs.declared.place.Placement.{Placement}
 use Rattle.kl_model.proofs.Covered.{In, here, there, in_flat_map}
 use Rattle.kl_model.proofs.ImageBytes.{within_is}
 use Rattle.kl_layout.proofs.Once.{everything_once}
-use Rattle.kl_write.proofs.FileBytes.{in_classes}
-use Rattle.kl_write.proofs.KernelFile.{all_in}
+use Rattle.kl_write.proofs.FileSegments.{in_classes}
+use Rattle.kl_write.proofs.ImageFile.{all_in}
 use Rattle.kl_write.proofs.LawBytes.{within_of}
 use Rattle.kl_write.proofs.SlotWords.{any_in, in_any}
 use Rattle.kl_write.proofs.SoundLaid.{in_get, in_pieces, in_split}

@@ -1,23 +1,26 @@
 -- What the file of an image made place by place has at the addresses of a class, and what memory has there.
-use Rattle.std.proofs.Common.{ℕ, ◌≡◌, ◌+◌, ◌-◌, ◌<◌, ◌≤◌, ◌∙◌, List, [], ◌∷◌, length, refl, ap, arith, Bool, true, false, ◌&&◌, inl, inr, ◌⊎◌, not, nat_eq}
-use Rattle.std.specs.Prelude.{Some, Option, find, slice_index, max, ◌==◌, nat_lt}
+use Rattle.std.proofs.Common.{ℕ, ◌≡◌, ◌+◌, ◌-◌, ◌<◌, ◌≤◌, ◌∙◌, List, [], ◌∷◌, length, refl, ap, arith, Bool, true, false, ◌&&◌, inl, inr, ◌⊎◌, nat_eq}
+use Rattle.std.specs.Prelude.{Some, Option, IsSomeAnd, find, slice_index, max, nat_lt}
 use Rattle.std.proofs.lemmas.Bool.{le-ltb, le-leb, lt-leb, ne_eqb}
 use Rattle.std.proofs.Math.Nat.{le-max_left, le-max_right}
 use Rattle.kl_base.specs.declared.class.Class.{Class}
 use Rattle.kl_base.specs.declared.class.Class.TheVariants.{Text, Rodata, Rwdata, Bss}
 use Rattle.kl_elf.specs.declared.records.Phdr.{Phdr}
 use Rattle.kl_model.specs.Areas.{class_number}
-use Rattle.kl_model.specs.Memory.{segments}
-use Rattle.kl_model.specs.Carries.{HasByte, InArea, class_size, ends_at, file_end, is_in_file, offset_for, permission, segment_of, segments_for, segments_of}
+use Rattle.kl_model.specs.Memory.{mem, segments}
+use Rattle.kl_model.specs.Carries.{HasByte, InArea, class_size, ends_at, file_end, is_in_file, offset_for, permission}
 use Rattle.kl_model.specs.Image.{byte_at, class_on, head_bytes, image_byte, image_bytes, image_size, is_within, phdrs}
 use Rattle.kl_model.specs.Laid.{area_at}
 use Rattle.kl_model.specs.Line.{classes}
-use Rattle.kl_model.specs.Lists.{only_if}
 use Rattle.kl_model.specs.Sizes.{page_of}
 use Rattle.kl_model.proofs.ImageBytes.{image_at, within_is}
-use Rattle.kl_model.proofs.ClassMemory.{InOrder, mem_file, mem_in_class, start_past_base}
-use Rattle.kl_model.proofs.Covered.{In, here, there, in_flat_map}
-use Rattle.kl_model.specs.declared.kit.KitKind.TheVariants.{Kernel}
+use Rattle.kl_model.proofs.ClassMemory.{InOrder, start_past_base}
+use Rattle.kl_model.proofs.Covered.{In, here, there}
+use Rattle.kl_model.specs.declared.kit.KitKind.{KitKind}
+use Rattle.kl_model.specs.declared.kit.KitKind.TheVariants.{Library}
+use Rattle.kl_write.specs.Segments.{segment_by}
+use Rattle.kl_write.proofs.FileSegments.{headers_size, in_segments, mem_bss, mem_file, mem_flags, offset_is, past_text, segment_filesz, segment_offset}
+use Rattle.kl_write.specs.Writes.{file_place}
 use Rattle.kl_model.specs.declared.place.Gaps.{Gaps}
 use Rattle.kl_model.specs.declared.place.Placement.{Placement}
 use Rattle.kl_model.specs.declared.graph.Graph.{Graph}
@@ -69,19 +72,17 @@ and_true true b e f = f
 and_true false b e f = cc
 
 -- the class in the file that has the place of an address
-abbrev file_test : Placement → ℕ → Class → Bool
-file_test p q c = is_in_file c && is_within (4096 + ((area_at p (class_number c)).start - p.base)) (class_size p c) q
-
-pub find_file_class : (p : Placement) (c : Class) (a : ℕ) → InOrder p → is_in_file c ≡ true → InArea p (class_number c) a → find (file_test p (4096 + (a - p.base))) classes ≡ Some c
-find_file_class p c a o f w =
+pub find_file_class : (k : KitKind) (p : Placement) (c : Class) (a : ℕ) → (k ≡ Library → p.base ≡ 0) → InOrder p → is_in_file c ≡ true → InArea p (class_number c) a
+    → find (λ c. is_in_file c && is_within (offset_for k p c) (class_size p c) (file_place k p a)) classes ≡ Some c
+find_file_class k p c a zero o f w =
     let past = start_past_base p c o in
-    let q = 4096 + (a - p.base) in
-    find_class_by (file_test p q) c
-    (and_true (is_in_file c) (is_within (4096 + ((area_at p (class_number c)).start - p.base)) (class_size p c) q) f
-    (within_is (4096 + ((area_at p (class_number c)).start - p.base)) (class_size p c) q (omega (arith, past, w.0), omega (arith, past, w.0, w.1))))
-    (λ d l. and_false (is_in_file d) (is_within (4096 + ((area_at p (class_number d)).start - p.base)) (class_size p d) q)
-    (within_not (4096 + ((area_at p (class_number d)).start - p.base)) (class_size p d) q (inr (
-    let base = start_past_base p d o in let ordered = has_order p d o in let before = ends_before p d c o l in omega (arith, past, w.0, base, ordered, before)))))
+    let q = file_place k p a in
+    let here = offset_is k p c zero in
+    find_class_by (λ c. is_in_file c && is_within (offset_for k p c) (class_size p c) q) c
+    (and_true (is_in_file c) (is_within (offset_for k p c) (class_size p c) q) f (within_is (offset_for k p c) (class_size p c) q (omega (arith, here, past, w.0), omega (arith, here, past, w.0, w.1))))
+    (λ d l. and_false (is_in_file d) (is_within (offset_for k p d) (class_size p d) q) (within_not (offset_for k p d) (class_size p d) q (inr (
+    let there = offset_is k p d zero in let base = start_past_base p d o in let ordered = has_order p d o in let before = ends_before p d c o l in
+    omega (arith, there, past, w.0, base, ordered, before)))))
 
 -- every header ends within the file
 pub le-ends : (n : ℕ) (ss : List Phdr) → n ≤ ends_at n ss
@@ -93,66 +94,75 @@ ends-in n [] s i = elim i [ ]
 ends-in n (t ∷ ss) s here = omega (arith, le-max_right n (file_end s), le-ends (max n (file_end s)) ss)
 ends-in n (t ∷ ss) s (there i) = ends-in (max n (file_end t)) ss s i
 
-pub in_classes : (c : Class) → In c classes
-in_classes Text = here
-in_classes Rodata = there here
-in_classes Rwdata = there (there here)
-in_classes Bss = there (there (there here))
+pub file_end_some : (s : Phdr) → 0 < s.filesz → file_end s ≡ s.offset + s.filesz
+file_end_some s h = let some : nat_eq s.filesz 0 ≡ false = ne_eqb s.filesz 0 (λ e. omega (arith, e, h)) in rw some refl
 
-in_only : {X : Type 0} (b : Bool) (x : X) → b ≡ true → In x (only_if b x)
-in_only true x e = here
-in_only false x e = cc
+-- the headers of an image stand before text, and are read again
+pub record HeadersRead (kit : Kit) (inputs : List Input) (g : Graph) (gaps : Option Gaps) (p : Placement) : Type 0 where
+  pub front : length (head_bytes kit inputs g gaps p) ≤ file_place kit.kind p (area_at p 0).start
+  pub size : length (head_bytes kit inputs g gaps p) ≡ headers_size (phdrs kit inputs g gaps p)
+  pub headers : segments (image_bytes kit inputs g gaps p) ≡ phdrs kit inputs g gaps p
 
-some_size : (p : Placement) (c : Class) (a : ℕ) → InArea p (class_number c) a → not (class_size p c == 0) ≡ true
-some_size p c a w = let some : nat_eq (class_size p c) 0 ≡ false = ne_eqb (class_size p c) 0 (λ e. omega (arith, e, w.0, w.1)) in rw some refl
+module _ (kit : Kit) (inputs : List Input) (g : Graph) (gaps : Option Gaps) (p : Placement) (zero : kit.kind ≡ Library → p.base ≡ 0) (o : InOrder p) where
+  abbrev k : KitKind
+  k = kit.kind
 
-pub in_segments : (p : Placement) (c : Class) (a : ℕ) → InArea p (class_number c) a → In (segment_of p c) (segments_of p)
-in_segments p c a w = in_flat_map (λ c. only_if (not (class_size p c == 0)) (segment_of p c)) (in_classes c) (in_only (not (class_size p c == 0)) (segment_of p c) (some_size p c a w))
+  abbrev ss : List Phdr
+  ss = phdrs kit inputs g gaps p
 
-file_end_is : (s : Phdr) → 0 < s.filesz → file_end s ≡ s.offset + s.filesz
-file_end_is s h = let some : nat_eq s.filesz 0 ≡ false = ne_eqb s.filesz 0 (λ e. omega (arith, e, h)) in rw some refl
-
--- a kernel
-module _ (kit : Kit) (inputs : List Input) (g : Graph) (gaps : Option Gaps) (p : Placement) (kernel : kit.kind ≡ Kernel) (o : InOrder p) where
-  pub phdrs_are : phdrs kit inputs g gaps p ≡ segments_of p
-  phdrs_are = ap (λ k. segments_for k (page_of kit g) p) kernel
-
-  pub in_size : (c : Class) (a : ℕ) → is_in_file c ≡ true → InArea p (class_number c) a → 4096 + (a - p.base) < image_size kit inputs g gaps p
+  pub in_size : (c : Class) (a : ℕ) → is_in_file c ≡ true → InArea p (class_number c) a → file_place kit.kind p a < image_size kit inputs g gaps p
   in_size c a f w =
       let past = start_past_base p c o in
       let n = length (head_bytes kit inputs g gaps p) in
-      let e : image_size kit inputs g gaps p ≡ ends_at n (segments_of p) = ap (ends_at n) phdrs_are in
-      let size : (segment_of p c).filesz ≡ class_size p c = rw f refl in
-      let some : 0 < (segment_of p c).filesz = rw size (omega (arith, w.0, w.1)) in
-      omega (arith, e, size, past, w.0, w.1, file_end_is (segment_of p c) some, ends-in n (segments_of p) (segment_of p c) (in_segments p c a w))
+      let s = segment_by k (page_of kit g) p c in
+      let size = segment_filesz k (page_of kit g) p c f in
+      let some : 0 < s.filesz = rw size (omega (arith, w.0, w.1)) in
+      omega (
+        arith,
+        size,
+        past,
+        w.0,
+        w.1,
+        segment_offset k (page_of kit g) p c,
+        offset_is k p c zero,
+        file_end_some s some,
+        ends-in n ss s (in_segments k (page_of kit g) p c a w),
+      )
 
-  pub class_on_is : (c : Class) (a : ℕ) → is_in_file c ≡ true → InArea p (class_number c) a → class_on kit inputs g gaps p (4096 + (a - p.base)) ≡ Some c
-  class_on_is c a f w =
-      ap (λ k. find (λ c. is_in_file c && is_within (offset_for k p c) (class_size p c) (4096 + (a - p.base))) classes) kernel ∙ find_file_class p c a o f w
+  pub class_on_is : (c : Class) (a : ℕ) → is_in_file c ≡ true → InArea p (class_number c) a → class_on kit inputs g gaps p (file_place kit.kind p a) ≡ Some c
+  class_on_is c a f w = find_file_class k p c a zero o f w
 
   -- the byte of the file at the place of an address of a class
-  module _ (short : length (head_bytes kit inputs g gaps p) ≤ 4096) where
-    pub image_there : (c : Class) (a : ℕ) → is_in_file c ≡ true → InArea p (class_number c) a → image_byte kit inputs g gaps p (4096 + (a - p.base)) ≡ byte_at kit inputs g gaps p c a
+  module _ (front : length (head_bytes kit inputs g gaps p) ≤ file_place kit.kind p (area_at p 0).start) where
+    pub behind_heads : (c : Class) (a : ℕ) → InArea p (class_number c) a → length (head_bytes kit inputs g gaps p) ≤ file_place kit.kind p a
+    behind_heads c a w = let past = past_text p c o in let base = start_past_base p Text o in omega (arith, front, past, base, w.0)
+
+    pub image_there : (c : Class) (a : ℕ) → is_in_file c ≡ true → InArea p (class_number c) a → image_byte kit inputs g gaps p (file_place kit.kind p a) ≡ byte_at kit inputs g gaps p c a
     image_there c a f w =
         let past = start_past_base p c o in
-        let q = 4096 + (a - p.base) in
-        let behind : nat_lt q (length (head_bytes kit inputs g gaps p)) ≡ false = le-ltb q (length (head_bytes kit inputs g gaps p)) (omega (arith, short)) in
-        let offset : offset_for kit.kind p c ≡ 4096 + ((area_at p (class_number c)).start - p.base) = ap (λ k. offset_for k p c) kernel in
+        let q = file_place k p a in
+        let behind : nat_lt q (length (head_bytes kit inputs g gaps p)) ≡ false = le-ltb q (length (head_bytes kit inputs g gaps p)) (behind_heads c a w) in
+        let offset = offset_is k p c zero in
         let back : (area_at p (class_number c)).start + (q - offset_for kit.kind p c) ≡ a = omega (arith, offset, past, w.0) in
         rw (behind, class_on_is c a f w, back) refl
 
     pub byte_there : (c : Class) (a : ℕ) → is_in_file c ≡ true → InArea p (class_number c) a
-        → slice_index (image_bytes kit inputs g gaps p) (4096 + (a - p.base)) ≡ byte_at kit inputs g gaps p c a
-    byte_there c a f w = image_at kit inputs g gaps p (4096 + (a - p.base)) (in_size c a f w) ∙ image_there c a f w
+        → slice_index (image_bytes kit inputs g gaps p) (file_place kit.kind p a) ≡ byte_at kit inputs g gaps p c a
+    byte_there c a f w = image_at kit inputs g gaps p (file_place kit.kind p a) (in_size c a f w) ∙ image_there c a f w
 
-    module _ (headers : segments (image_bytes kit inputs g gaps p) ≡ segments_of p) where
-      -- memory holds the byte of the class
-      pub holds_byte : (c : Class) (a : ℕ) → is_in_file c ≡ true → InArea p (class_number c) a → HasByte (image_bytes kit inputs g gaps p) a (byte_at kit inputs g gaps p c a) c
-      holds_byte c a f w =
-          mem_file (image_bytes kit inputs g gaps p) p c a o headers f w ∙ ap (λ x. Some (record { byte = x; flags = permission c })) (byte_there c a f w)
+  -- where the headers are read
+  module _ (read : HeadersRead kit inputs g gaps p) where
+    sized : headers_size ss ≤ file_place k p (area_at p 0).start
+    sized = let size = read.size in let front = read.front in omega (arith, size, front)
 
-      -- and zero in bss
-      pub holds_bss : (a : ℕ) → InArea p 3 a → HasByte (image_bytes kit inputs g gaps p) a 0 Bss
-      holds_bss a w =
-          let past : nat_lt a ((area_at p 3).start + 0) ≡ false = le-ltb a ((area_at p 3).start + 0) (omega (arith, w.0)) in
-          mem_in_class (image_bytes kit inputs g gaps p) p Bss a o headers w ∙ rw past refl
+    -- memory holds the byte of the class
+    pub holds_byte : (c : Class) (a : ℕ) → is_in_file c ≡ true → InArea p (class_number c) a → HasByte (image_bytes kit inputs g gaps p) a (byte_at kit inputs g gaps p c a) c
+    holds_byte c a f w =
+        mem_file (image_bytes kit inputs g gaps p) k (page_of kit g) p zero sized o read.headers c a f w ∙ ap (λ x. Some (record { byte = x; flags = permission c })) (byte_there read.front c a f w)
+
+    -- and zero in bss
+    pub holds_bss : (a : ℕ) → InArea p 3 a → HasByte (image_bytes kit inputs g gaps p) a 0 Bss
+    holds_bss a w = mem_bss (image_bytes kit inputs g gaps p) k (page_of kit g) p zero sized o read.headers a w
+
+    pub holds_flags : (c : Class) (a : ℕ) → InArea p (class_number c) a → IsSomeAnd (mem (image_bytes kit inputs g gaps p) a) (λ cell. cell.flags ≡ permission c)
+    holds_flags c a w = mem_flags (image_bytes kit inputs g gaps p) k (page_of kit g) p zero sized o read.headers c a w

@@ -1,14 +1,13 @@
--- Contents, gaps and padding of a kernel's image that is made place by place.
-use Rattle.std.proofs.Common.{ℕ, ◌≡◌, ◌+◌, ◌-◌, ◌^◌, ◌<◌, ◌≤◌, ◌∙◌, List, [], ◌∷◌, ◌++◌, length, get_or, refl, ap, sym, subst, arith, Bool, true, false, cond, inl, inr, ◌⊎◌, ◌&&◌}
-use Rattle.std.specs.Prelude.{Some, None, Option, IfSome, find, flat_map, ◌==◌, ◌||◌, nat_lt, Any}
-use Rattle.std.proofs.lemmas.Bool.{cases_lt, cases_Bool, eqb-true, le-ltb}
+-- Contents, gaps and padding of an image that is made place by place.
+use Rattle.std.proofs.Common.{ℕ, ◌≡◌, ◌+◌, ◌-◌, ◌^◌, ◌<◌, ◌≤◌, ◌∙◌, List, [], ◌∷◌, ◌++◌, length, get_or, refl, ap, sym, subst, arith, nat_eq, Bool, true, false, cond, inl, inr, ◌⊎◌, ◌&&◌}
+use Rattle.std.specs.Prelude.{Some, None, Option, IfSome, find, flat_map, ◌==◌, ◌||◌, nat_lt, slice_index, Any}
+use Rattle.std.proofs.lemmas.Bool.{cases_lt, cases_Bool, eqb-true, le-ltb, ne_eqb}
 use Rattle.kl_base.specs.declared.class.Class.{Class}
 use Rattle.kl_base.specs.declared.class.Class.TheVariants.{Text, Rodata, Rwdata, Bss}
 use Rattle.kl_le.specs.Bytes.{Within}
 use Rattle.kl_model.specs.Areas.{class_number, same_class}
-use Rattle.kl_model.specs.Memory.{segments}
-use Rattle.kl_model.specs.Carries.{Apart, Contents, HasByte, InArea, InField, InPart, Padded, content, is_in_file, no_piece, padding, permission, piece_at, segments_of}
-use Rattle.kl_model.specs.Image.{byte_at, field_on, head_bytes, image_bytes, is_nop, is_within, padding_at, part_byte, part_on}
+use Rattle.kl_model.specs.Carries.{Apart, Contents, HasByte, InArea, InField, InPart, Padded, content, is_in_file, no_piece, padding, permission, piece_at}
+use Rattle.kl_model.specs.Image.{byte_at, field_on, image_bytes, is_nop, is_within, padding_at, part_byte, part_on}
 use Rattle.kl_model.specs.Laid.{Laid, area_at, place_of, reach, span}
 use Rattle.kl_model.specs.Line.{area_spread, class_line, classes, every_part, gap_parts, gap_size, made_parts, piece_part, run_spreads, spreads}
 use Rattle.kl_model.specs.Lists.{each}
@@ -17,15 +16,17 @@ use Rattle.kl_model.specs.Sizes.{made_of, text_from}
 use Rattle.kl_model.specs.Sound.{IsSoundGraph}
 use Rattle.kl_base.specs.declared.limits.TheConstants.{BASE_LIMIT, SPAN_LIMIT}
 use Rattle.kl_write.proofs.AreaFound.{area_in_class}
-use Rattle.kl_model.proofs.ClassMemory.{InOrder, mem_in_class}
+use Rattle.kl_model.proofs.ClassMemory.{InOrder}
 use Rattle.kl_model.proofs.Covered.{In, here, there, in_left, in_right, index_of, IsWhole}
-use Rattle.kl_write.proofs.FileBytes.{ends_before, holds_byte, holds_bss}
+use Rattle.kl_write.proofs.FileBytes.{HeadersRead, ends_before, holds_byte, holds_bss, holds_flags}
 use Rattle.kl_write.proofs.Homes.{aligned-spreads}
 use Rattle.kl_model.proofs.ImageBytes.{byte_of_piece, part_is, within_is}
 use Rattle.kl_model.proofs.InOrder.{base-le}
 use Rattle.kl_write.proofs.SoundLaid.{apart, four_classes, home, ordered, piece_home, top, within, same_classes, positive}
-use Rattle.kl_write.proofs.Stands.{gap_in}
-use Rattle.kl_model.specs.declared.kit.KitKind.TheVariants.{Kernel}
+use Rattle.kl_write.proofs.Stands.{dynamic_in, gap_in, got_class, got_in, stubs_in, tables_in}
+use Rattle.kl_model.specs.Tables.{made_bytes}
+use Rattle.kl_model.specs.declared.kit.KitKind.{KitKind}
+use Rattle.kl_model.specs.declared.kit.KitKind.TheVariants.{Kernel, Library}
 use Rattle.kl_model.specs.declared.place.Body.TheVariants as body
 use Rattle.kl_model.specs.declared.place.LinePart.{LinePart}
 use Rattle.kl_model.specs.declared.place.Gaps.{Gaps}
@@ -83,14 +84,17 @@ nothing false Rodata e = refl
 nothing false Rwdata e = refl
 nothing false Bss e = refl
 
-module _ (kit : Kit) (inputs : List Input) (g : Graph) (gaps : Option Gaps) (order : List ℕ) (p : Placement) (kernel : kit.kind ≡ Kernel) (laid : Laid p kit g gaps order (made_of kit g))
+module _ (kit : Kit) (inputs : List Input) (g : Graph) (gaps : Option Gaps) (order : List ℕ) (p : Placement) (origin : kit.kind ≡ Library → kit.base ≡ 0) (laid : Laid p kit g gaps order (made_of kit g))
     (small : span kit g gaps order (made_of kit g) ≤ SPAN_LIMIT) (limit : kit.base ≤ BASE_LIMIT) (sound : IsSoundGraph kit g) (whole : IsWhole g order)
-    (short : length (head_bytes kit inputs g gaps p) ≤ 4096) (headers : segments (image_bytes kit inputs g gaps p) ≡ segments_of p) where
+    (read : HeadersRead kit inputs g gaps p) where
   abbrev made : Made
   made = made_of kit g
 
   abbrev img : List ℕ
   img = image_bytes kit inputs g gaps p
+
+  pub zero_base : kit.kind ≡ Library → p.base ≡ 0
+  zero_base e = laid.base ∙ origin e
 
   pub in_order_too : InOrder p
   in_order_too = ordered kit g gaps order made p laid small limit sound whole
@@ -104,7 +108,7 @@ module _ (kit : Kit) (inputs : List Input) (g : Graph) (gaps : Option Gaps) (ord
 
   pub byte_held : (c : Class) (a b : ℕ) → is_in_file c ≡ true → InArea p (class_number c) a → byte_at kit inputs g gaps p c a ≡ b → HasByte img a b c
   byte_held c a b f w e =
-      holds_byte kit inputs g gaps p kernel in_order_too short headers c a f w ∙ ap (λ x. Some (record { byte = x; flags = permission c })) e
+      holds_byte kit inputs g gaps p zero_base in_order_too read c a f w ∙ ap (λ x. Some (record { byte = x; flags = permission c })) e
 
   -- a byte of a piece has an address of its class
   pub piece_area : (n k : ℕ) → n < length g.pieces → k < (piece_at g n).size → InArea p (class_number (piece_at g n).class) (place_of p g (body.Piece n) + k)
@@ -120,7 +124,7 @@ module _ (kit : Kit) (inputs : List Input) (g : Graph) (gaps : Option Gaps) (ord
       (byte_of_piece kit inputs g gaps p are_apart n k (piece_at g n).class h l)
 
   pub bss_held : (a : ℕ) → InArea p 3 a → HasByte img a 0 Bss
-  bss_held a w = holds_bss kit inputs g gaps p kernel in_order_too short headers a w
+  bss_held a w = holds_bss kit inputs g gaps p zero_base in_order_too read a w
 
   -- a piece's bytes outside its fields are its input's
   piece_contents : (n k : ℕ) → n < length g.pieces → k < (piece_at g n).size → ¬ InField g n k
@@ -197,7 +201,7 @@ module _ (kit : Kit) (inputs : List Input) (g : Graph) (gaps : Option Gaps) (ord
   contents = record {
     pieces = piece_contents;
     gap_bytes = gaps_held gaps refl;
-    permissions = λ c a l h. rw (mem_in_class img p c a in_order_too headers (l, h)) refl;
+    permissions = λ c a l h. holds_flags kit inputs g gaps p zero_base in_order_too read c a (l, h);
   }
 
   -- two classes have no address in common
@@ -280,3 +284,65 @@ module _ (kit : Kit) (inputs : List Input) (g : Graph) (gaps : Option Gaps) (ord
 
   pub padded : Padded img p g (class_line kit g gaps order made)
   padded = record { plain = plain; nops = nops }
+
+  -- a made area is one part of its class, where it isn't empty
+  pub record IsMadePart (c : Class) (n size align : ℕ) : Type 0 where
+    pub class : is_in_file c ≡ true
+    pub line : 0 < size → In (record { body = body.Area n; size = size; align = align }) (class_line kit g gaps order made c)
+    pub part : 0 < size → In (record { body = body.Area n; size = size; align = align }) (every_part g gaps made)
+
+  some_made : (n size align : ℕ) → 0 < size → In (record { body = body.Area n; size = size; align = align }) (made_parts n size align)
+  some_made n size align h = let some : nat_eq size 0 ≡ false = ne_eqb size 0 (λ e. omega (arith, e, h)) in rw some here
+
+  in_made : (x : LinePart) → In x (made_parts 6 made.stubs 16 ++ (made_parts 8 made.tables 8 ++ (made_parts 13 made.got 8 ++ made_parts 14 made.dynamic 8))) → In x (every_part g gaps made)
+  in_made x i = in_right (each g.pieces (λ n x. piece_part n x ∷ [])) (in_right (flat_map (gap_parts gaps) classes) i)
+
+  pub stubs_part : IsMadePart Text 6 made.stubs 16
+  stubs_part = record {
+    class = refl;
+    line = λ h. stubs_in kit g gaps order made _ (some_made 6 made.stubs 16 h);
+    part = λ h. in_made _ (in_left (made_parts 8 made.tables 8 ++ (made_parts 13 made.got 8 ++ made_parts 14 made.dynamic 8)) (some_made 6 made.stubs 16 h));
+  }
+
+  pub tables_part : IsMadePart Rodata 8 made.tables 8
+  tables_part = record {
+    class = refl;
+    line = λ h. tables_in kit g gaps order made _ (some_made 8 made.tables 8 h);
+    part = λ h. in_made _ (in_right (made_parts 6 made.stubs 16) (in_left (made_parts 13 made.got 8 ++ made_parts 14 made.dynamic 8) (some_made 8 made.tables 8 h)));
+  }
+
+  pub got_part : IsMadePart (got_class kit.kind) 13 made.got 8
+  got_part = record {
+    class = got_file kit.kind;
+    line = λ h. got_in kit g gaps order made _ (some_made 13 made.got 8 h);
+    part = λ h. in_made _ (in_right (made_parts 6 made.stubs 16) (in_right (made_parts 8 made.tables 8) (in_left (made_parts 14 made.dynamic 8) (some_made 13 made.got 8 h))));
+  }
+    where
+      got_file : (k : KitKind) → is_in_file (got_class k) ≡ true
+      got_file Kernel = refl
+      got_file Library = refl
+
+  pub dynamic_part : IsMadePart Rwdata 14 made.dynamic 8
+  dynamic_part = record {
+    class = refl;
+    line = λ h. dynamic_in kit g gaps order made _ (some_made 14 made.dynamic 8 h);
+    part = λ h. in_made _ (in_right (made_parts 6 made.stubs 16) (in_right (made_parts 8 made.tables 8) (in_right (made_parts 13 made.got 8) (some_made 14 made.dynamic 8 h))));
+  }
+
+  -- it holds its bytes
+  module _ (c : Class) (n size align : ℕ) (m : IsMadePart c n size align) (q : ℕ) (l : q < size) where
+    pub made_within : ((area_at p (class_number c)).start ≤ (area_at p n).start) × ((area_at p n).start + size ≤ (area_at p (class_number c)).end)
+    made_within = stands_within c (record { body = body.Area n; size = size; align = align }) (m.line (omega (arith, l)))
+
+    pub made_area : InArea p (class_number c) ((area_at p n).start + q)
+    made_area = let w = made_within in (omega (arith, w.0), omega (arith, w.1, l))
+
+    pub made_at : byte_at kit inputs g gaps p c ((area_at p n).start + q) ≡ slice_index (made_bytes kit inputs g p n) q
+    made_at =
+        let there_is =
+        part_there (record { body = body.Area n; size = size; align = align }) ((area_at p n).start + q) (m.part (omega (arith, l))) (omega arith, omega (arith, l)) in
+        let back : (area_at p n).start + q - (area_at p n).start ≡ q = omega arith in
+        rw (there_is, back) refl
+
+    pub made_held : HasByte img ((area_at p n).start + q) (slice_index (made_bytes kit inputs g p n) q) c
+    made_held = byte_held c ((area_at p n).start + q) (slice_index (made_bytes kit inputs g p n) q) m.class made_area made_at

@@ -1,6 +1,6 @@
 -- A small kernel that meets the premises of the law: a piece of text with a field that leads to its start by a slot.
 use Rattle.std.proofs.Common.{zero, suc, ◌≡◌, ◌<◌, ◌^◌, Bool, false, ◌&&◌, List, [], ◌∷◌, refl, arith, true, pos}
-use Rattle.std.specs.Prelude.{Some, None, All, IfSome, nat_lt}
+use Rattle.std.specs.Prelude.{Some, None, All, nat_lt}
 use Rattle.std.specs.List.{list_all}
 use Rattle.kl_model.specs.Carries.{CarriesGraph}
 use Rattle.kl_model.specs.Faults.{does_fit}
@@ -9,7 +9,6 @@ use Rattle.kl_model.specs.Laid.{Laid}
 use Rattle.kl_model.specs.Placed.{placed}
 use Rattle.kl_model.specs.Sizes.{made_of}
 use Rattle.kl_model.specs.Sound.{IsSoundField, IsSoundGraph, IsSoundName, IsSoundPiece}
-use Rattle.kl_model.specs.declared.graph.DynName.{DynName}
 use Rattle.kl_model.specs.declared.place.AreaAt.{AreaAt}
 use Rattle.kl_base.specs.declared.class.Class.TheVariants.{Text}
 use Rattle.kl_model.proofs.Covered.{IsWhole}
@@ -91,5 +90,5 @@ all_small (x ∷ xs) e =
 -- the law on it
 pub example : (inputs : List Input) → CarriesGraph (image_bytes kit inputs g None p) p kit inputs g None []
 example inputs =
-    carries_graph kit inputs g None [] p refl laid (omega arith) (omega arith) sound whole (all_small p.areas refl)
+    carries_graph kit inputs g None [] p (λ e. cc) laid (omega arith) (omega arith) sound whole (all_small p.areas refl) refl
     (one (λ f. does_fit p g f ≡ true) call refl) refl

@@ -1,6 +1,7 @@
 pub mod FileBytes
 pub mod ReadHeaders
-pub mod KernelFile
+pub mod FileSegments
+pub mod ImageFile
 pub mod Stands
 pub mod Homes
 pub mod LaidParts
@@ -21,4 +22,7 @@ pub mod Spans
 pub mod Filled
 pub mod HeadBytes
 pub mod FileEnds
-pub mod KernelValues
+pub mod FewSlots
+pub mod SegmentFields
+pub mod StubTargets
+pub mod ImageMade

@@ -1,5 +1,5 @@
 -- Addresses that are kept modulo 2^64, and their places in the file.
-use Rattle.std.proofs.Common.{ℕ, ◌≡◌, ◌-◌, ◌^◌, ◌<◌, ◌≤◌, arith, true, false, nat_lt, inl, inr}
+use Rattle.std.proofs.Common.{ℕ, ◌≡◌, ◌-◌, ◌^◌, ◌<◌, ◌≤◌, refl, arith, true, false, nat_lt, inl, inr}
 use Rattle.std.proofs.lemmas.Bool.{le-ltb, lt-ltb, cases_lt}
 use Rattle.kl_model.specs.Laid.{unwrapped}
 use Rattle.kl_model.specs.Reaches.{less}
@@ -11,7 +11,10 @@ use Rattle.kl_model.specs.declared.graph.PieceId.TheVariants as id
 use Rattle.kl_model.specs.declared.graph.Target.TheVariants.{Place}
 use Rattle.kl_model.specs.declared.place.AreaAt.{AreaAt}
 use Rattle.kl_model.specs.declared.place.Placed.{Placed}
+use Rattle.kl_model.specs.declared.kit.KitKind.{KitKind}
+use Rattle.kl_model.specs.declared.kit.KitKind.TheVariants.{Kernel, Library}
 use Rattle.kl_model.specs.declared.place.Placement.{Placement}
+use Rattle.kl_write.specs.Writes.{origin}
 
 -- how far an address lies behind the base
 pub less_base : (p : Placement) (a : ℕ) → a < 2 ^ 64 → p.base < 2 ^ 64 → less a p.base ≡ unwrapped p a - p.base
@@ -27,6 +30,19 @@ le_unwrapped p a b =
       | inl l ↦ let t : nat_lt a p.base ≡ true = lt-ltb a p.base l in rw t (omega (arith, b))
       | inr l ↦ let t : nat_lt a p.base ≡ false = le-ltb a p.base l in rw t l
     ]
+
+-- an address that isn't past the end of memory is kept as it is
+pub plain_place : (p : Placement) (a : ℕ) → unwrapped p a < 2 ^ 64 → unwrapped p a ≡ a
+plain_place p a h =
+    elim (cases_lt a p.base) [
+      | inl l ↦ (let t : nat_lt a p.base ≡ true = lt-ltb a p.base l in absurd (omega (arith, (rw t at h))))
+      | inr l ↦ let t : nat_lt a p.base ≡ false = le-ltb a p.base l in rw t refl
+    ]
+
+-- the base stands at most a page from the start of the file
+pub origin-le : (k : KitKind) → origin k ≤ 4096
+origin-le Kernel = omega arith
+origin-le Library = omega arith
 
 -- what the prover takes for an item past the end of a list
 abbrev pub zero_area : AreaAt

@@ -81,8 +81,10 @@ aligned_in at from (y ∷ ys) x s (there i) = aligned_in at (at y.body + y.size)
 pub record FourClasses (kit : Kit) (g : Graph) (gaps : Option Gaps) (order : List ℕ) (made : Made) (p : Placement) : Type 0 where
   pub stands : (c : Class) → ClassStands p g (class_line kit g gaps order made c) c
   pub top : (area_at p 3).end ≤ p.base + SPAN_LIMIT
+  pub text_first : text_from kit g ≤ (area_at p 0).start
   pub text_end : (area_at p 0).end ≡ reach (text_from kit g) (class_line kit g gaps order made Text)
   pub rodata_end : (area_at p 1).end ≡ reach (up (class_end p Text) (page_of kit g)) (class_line kit g gaps order made Rodata)
+  pub rwdata_end : (area_at p 2).end ≡ reach (up (class_end p Rodata) (page_of kit g)) (class_line kit g gaps order made Rwdata)
 
 module _ (kit : Kit) (g : Graph) (gaps : Option Gaps) (order : List ℕ) (made : Made) (p : Placement) (laid : Laid p kit g gaps order made)
     (small : span kit g gaps order made ≤ SPAN_LIMIT) (limit : kit.base ≤ BASE_LIMIT) (sound : IsSoundGraph kit g) (whole : IsWhole g order) where
@@ -130,8 +132,10 @@ module _ (kit : Kit) (g : Graph) (gaps : Option Gaps) (order : List ℕ) (made :
       record {
         stands = λ c. pick at_text at_rodata at_rwdata at_bss c;
         top = omega (arith, bss.ends, fits, base);
+        text_first = text.start;
         text_end = text.ends;
         rodata_end = rodata.ends ∙ ap (λ m. reach (up m n) (class_line kit g gaps order made Rodata)) (sym text.ends);
+        rwdata_end = rwdata.ends ∙ ap (λ m. reach (up m n) (class_line kit g gaps order made Rwdata)) (sym rodata.ends);
       }
     where
       pick : ClassStands p g (class_line kit g gaps order made Text) Text → ClassStands p g (class_line kit g gaps order made Rodata) Rodata

@@ -1,6 +1,6 @@
--- The parts of a kernel that is laid out stand in the span.
-use Rattle.std.proofs.Common.{get_or, ℕ, ◌≡◌, ◌+◌, ◌-◌, ◌*◌, ◌^◌, ◌<◌, ◌≤◌, List, length, map, refl, ap, sym, subst, arith, inl, inr, length-append}
-use Rattle.std.specs.Prelude.{All, Some, None, Option, IfSome, is_some, true, false}
+-- The parts of a kit that is laid out stand in the span.
+use Rattle.std.proofs.Common.{get_or, ℕ, ◌≡◌, ◌+◌, ◌-◌, ◌^◌, ◌<◌, ◌≤◌, ◌∙◌, List, length, map, refl, ap, sym, subst, arith, inl, inr, length-append}
+use Rattle.std.specs.Prelude.{All, Some, None, Option, IfSome, is_some, true}
 use Rattle.std.specs.Option.{option_map_or}
 use Rattle.std.proofs.lemmas.Bool.{cases_lt}
 use Rattle.std.proofs.lemmas.List.{length-map}
@@ -8,16 +8,18 @@ use Rattle.kl_base.specs.declared.class.Class.{Class}
 use Rattle.kl_base.specs.declared.class.Class.TheVariants.{Text, Rodata, Rwdata, Bss}
 use Rattle.kl_base.specs.declared.limits.TheConstants.{BASE_LIMIT, SPAN_LIMIT}
 use Rattle.kl_model.specs.Areas.{class_number}
-use Rattle.kl_model.specs.Carries.{gap_names, piece_at}
+use Rattle.kl_model.specs.Carries.{InArea, gap_names, piece_at, segments_for}
 use Rattle.kl_model.specs.Laid.{AreasStand, area_at, class_end, place_of, reach, start_of, end_of}
-use Rattle.kl_model.specs.Line.{Spread, area_spread, class_line, gap_size, last_spreads, made_spread, piece_part, run_spreads, spreads}
+use Rattle.kl_model.specs.Line.{Spread, area_spread, class_line, gap_size, got_spread, last_spreads, made_spread, piece_part, run_spreads, spreads}
 use Rattle.kl_model.specs.Lists.{up}
-use Rattle.kl_model.specs.Sizes.{made_of, page_of, text_from}
+use Rattle.kl_model.specs.Sizes.{made_of, page_for, page_of, text_from}
 use Rattle.kl_model.specs.Relocations.{relocation_type}
-use Rattle.kl_model.specs.Slots.{is_name, slots}
+use Rattle.kl_model.specs.Slots.{slots}
 use Rattle.kl_model.specs.declared.relocation.RelocationType.{RelocationType}
 use Rattle.kl_model.specs.declared.graph.Graph.{Graph}
 use Rattle.kl_model.specs.declared.kit.Kit.{Kit}
+use Rattle.kl_model.specs.declared.kit.KitKind.{KitKind}
+use Rattle.kl_model.specs.declared.kit.KitKind.TheVariants.{Kernel, Library}
 use Rattle.kl_model.specs.declared.object.Input.{Input}
 use Rattle.kl_model.specs.declared.place.Body.TheVariants as body
 use Rattle.kl_model.specs.declared.place.Gaps.{Gaps}
@@ -29,44 +31,58 @@ use Rattle.kl_model.specs.declared.graph.PieceId.{PieceId}
 use Rattle.kl_model.proofs.ClassMemory.{InOrder, start_past_base}
 use Rattle.kl_model.proofs.Covered.{In, here, there, in_right, IsWhole}
 use Rattle.kl_model.proofs.InOrder.{area_is, base-le, end-reach, le-start, le-up, page-pos}
-use Rattle.kl_write.proofs.AreaFound.{aligned-of, found}
+use Rattle.kl_write.proofs.AreaFound.{aligned-of, area_in_class, found}
 use Rattle.kl_write.proofs.Homes.{aligned-spreads}
-use Rattle.kl_write.proofs.KernelFile.{all_in, le_top}
-use Rattle.kl_write.proofs.LawBytes.{stands_within}
-use Rattle.kl_write.proofs.LawFields.{base_limit, got_area, got_size, inside, is_ordered, is_top, read, short}
+use Rattle.kl_write.proofs.ImageFile.{all_in, le_top}
+use Rattle.kl_write.proofs.FileBytes.{HeadersRead}
+use Rattle.kl_write.proofs.LawBytes.{IsMadePart, dynamic_part, got_part, made_within, stands_within, stubs_part, tables_part}
+use Rattle.kl_write.proofs.LawFields.{base_limit, few, inside, is_ordered, is_top, read}
+use Rattle.kl_write.proofs.FileEnds.{IsInData}
+use Rattle.kl_write.proofs.FileSegments.{headers_size}
+use Rattle.kl_write.specs.Segments.{IsPageOf}
 use Rattle.kl_write.proofs.Places.{le_unwrapped}
 use Rattle.kl_write.proofs.SlotWords.{in_slots}
 use Rattle.kl_write.proofs.SoundLaid.{in_get, FourClasses, four_classes, piece_home, positive}
-use Rattle.kl_write.proofs.Stands.{gap_in}
+use Rattle.kl_write.proofs.Stands.{gap_in, got_class}
 use Rattle.kl_write.proofs.WholeOrder.{whole_order}
-use Rattle.kl_write.specs.InSpan.{AreFieldsInside, AreGapsInSpan, ArePiecesInSpan, AreShort, IsAreaInSpan}
+use Rattle.kl_write.specs.InSpan.{AreFieldsInside, AreGapsInSpan, ArePiecesInSpan, AreShort, HasAreaRoom, IsAreaInSpan}
 use Rattle.kl_write.specs.Targets.{IsPlacedTarget}
 use Rattle.kl_write.specs.Values.{IsPlacedField}
 use Rattle.kl_model.specs.Sound.{IsSoundField, IsSoundTarget}
 use Rattle.kl_model.specs.declared.graph.Target.{Target}
 use Rattle.kl_model.specs.declared.graph.Target.TheVariants.{Place, Abs, Edge, Name, Zero, Gone}
-use Rattle.kl_write.specs.LaidKernel.{HasAreaAddresses, IsLaidKernel}
+use Rattle.kl_write.specs.LaidKits.{HasAreaAddresses, IsLaidKit, image_headers}
 
 -- a type whose field has a width is linked
 wide_kind : (o : Option RelocationType) → 0 < option_map_or (λ row. row.width) o 0 → is_some o ≡ true
 wide_kind None h = absurd (omega (arith, h))
 wide_kind (Some row) h = refl
 
-module _ (kit : Kit) (inputs : List Input) (g : Graph) (gaps : Option Gaps) (order : List ℕ) (p : Placement) (l : IsLaidKernel kit g gaps order p) (numbers : HasAreaAddresses p) where
+-- a kernel's page
+pub page_is : (kit : Kit) (g : Graph) → IsPageOf kit.kind (page_of kit g)
+page_is kit g e = ap (λ k. page_for k g) e
+
+module _ (kit : Kit) (inputs : List Input) (g : Graph) (gaps : Option Gaps) (order : List ℕ) (p : Placement) (l : IsLaidKit kit g gaps order p) (numbers : HasAreaAddresses p) where
   abbrev made : Made
   made = made_of kit g
 
   whole : IsWhole g order
   whole = whole_order g order l.whole
 
-  ordered : InOrder p
-  ordered = is_ordered kit inputs g gaps order p l.kernel l.laid l.small l.base l.sound whole numbers
+  heads : HeadersRead kit inputs g gaps p
+  heads = read kit inputs g gaps order p l.origin l.laid l.small l.base l.sound whole numbers
+
+  pub zero : kit.kind ≡ Library → p.base ≡ 0
+  zero e = l.laid.base ∙ l.origin e
+
+  pub ordered : InOrder p
+  ordered = is_ordered kit inputs g gaps order p l.origin l.laid l.small l.base l.sound whole numbers
 
   base_small : p.base < 2 ^ 64
-  base_small = let b = base_limit kit inputs g gaps order p l.kernel l.laid l.small l.base l.sound whole numbers in omega (arith, b)
+  base_small = let b = base_limit kit inputs g gaps order p l.origin l.laid l.small l.base l.sound whole numbers in omega (arith, b)
 
   in_top : (c : Class) → (area_at p (class_number c)).end ≤ p.base + SPAN_LIMIT
-  in_top c = omega (arith, le_top p c ordered, is_top kit inputs g gaps order p l.kernel l.laid l.small l.base l.sound whole numbers)
+  in_top c = omega (arith, le_top p c ordered, is_top kit inputs g gaps order p l.origin l.laid l.small l.base l.sound whole numbers)
 
   known : (n : ℕ) → n < 15 → n < length p.areas
   known n h = let e = l.laid.count in omega (arith, e, h)
@@ -84,7 +100,7 @@ module _ (kit : Kit) (inputs : List Input) (g : Graph) (gaps : Option Gaps) (ord
   class_span Bss = record { known = known 3 (omega arith); starts = start_past_base p Bss ordered; ordered = ordered.bss; ends = in_top Bss }
 
   pub base_fits : p.base ≤ BASE_LIMIT
-  base_fits = base_limit kit inputs g gaps order p l.kernel l.laid l.small l.base l.sound whole numbers
+  base_fits = base_limit kit inputs g gaps order p l.origin l.laid l.small l.base l.sound whole numbers
 
   -- an area of a class
   area_span : (c : Class) (from n : ℕ) (s : Spread) → AreasStand p (place_of p g) from (spreads kit g gaps order made c) → p.base ≤ from
@@ -116,23 +132,82 @@ module _ (kit : Kit) (inputs : List Input) (g : Graph) (gaps : Option Gaps) (ord
   pub fini_span : IsAreaInSpan p 5
   fini_span = area_span Text (text_from kit g) 5 (area_spread g 5) l.laid.text.areas text_base (sym four.text_end) (there (in_right (run_spreads kit g order Text) (there here))) refl (omega arith)
 
-  got_last : In (made_spread 13 made.got 8) (spreads kit g gaps order made Rodata)
-  got_last = there (in_right (run_spreads kit g order Rodata) (subst (λ k. In (made_spread 13 made.got 8) (last_spreads k g made Rodata)) (sym l.kernel) (there (there here))))
+  -- the made areas
+  spread_in : (c : Class) (s : Spread) → In s (last_spreads kit.kind g made c) → In s (spreads kit g gaps order made c)
+  spread_in c s i = there (in_right (run_spreads kit g order c) i)
 
-  pub got_span : IsAreaInSpan p 13
-  got_span =
-      let from = up (class_end p Text) (page_of kit g) in
-      area_span Rodata from 13 (made_spread 13 made.got 8) l.laid.rodata.areas (omega (arith, ordered.base, ordered.text, le-up (class_end p Text) (page_of kit g) (page-pos kit g))) (sym four.rodata_end) got_last refl (omega arith)
+  rodata_base : p.base ≤ up (class_end p Text) (page_of kit g)
+  rodata_base = omega (arith, ordered.base, ordered.text, le-up (class_end p Text) (page_of kit g) (page-pos kit g))
 
-  pub slots_room : (area_at p 13).start + 8 * length (slots g) ≤ p.base + SPAN_LIMIT
-  slots_room =
-      let size : made.got ≡ 8 * length (slots g) = got_size kit inputs g gaps order p l.kernel l.laid l.small l.base l.sound whole numbers in
-      elim (cases_lt 0 (length (slots g))) [
-        | inl some ↦
-            let last = got_area kit inputs g gaps order p l.kernel l.laid l.small l.base l.sound whole numbers (8 * length (slots g) - 1) (omega (arith, size, some)) in
-            omega (arith, last.1, in_top Rodata, some)
-        | inr none ↦ (let s = got_span in let o = s.ordered in let e = s.ends in omega (arith, none, o, e))
-      ]
+  rwdata_base : p.base ≤ up (class_end p Rodata) (page_of kit g)
+  rwdata_base = omega (arith, start_past_base p Rodata ordered, ordered.rodata, le-up (class_end p Rodata) (page_of kit g) (page-pos kit g))
+
+  stubs_span : IsAreaInSpan p 6
+  stubs_span = area_span Text (text_from kit g) 6 (made_spread 6 made.stubs 16) l.laid.text.areas text_base (sym four.text_end) (spread_in Text (made_spread 6 made.stubs 16) (there (there here))) refl (omega arith)
+
+  tables_span : IsAreaInSpan p 8
+  tables_span =
+      area_span Rodata (up (class_end p Text) (page_of kit g)) 8 (made_spread 8 made.tables 8) l.laid.rodata.areas rodata_base (sym four.rodata_end)
+      (spread_in Rodata (made_spread 8 made.tables 8) (there here)) refl (omega arith)
+
+  pub dynamic_span : IsAreaInSpan p 14
+  dynamic_span =
+      area_span Rwdata (up (class_end p Rodata) (page_of kit g)) 14 (made_spread 14 made.dynamic 8) l.laid.rwdata.areas rwdata_base (sym four.rwdata_end)
+      (spread_in Rwdata (made_spread 14 made.dynamic 8) (there (there (there (there (in_right (got_spread kit.kind made Rwdata) here)))))) refl (omega arith)
+
+  got_span : IsAreaInSpan p 13
+  got_span = go kit.kind refl
+    where
+      go : (k : KitKind) → kit.kind ≡ k → IsAreaInSpan p 13
+      go Kernel e =
+          area_span Rodata (up (class_end p Text) (page_of kit g)) 13 (made_spread 13 made.got 8) l.laid.rodata.areas rodata_base (sym four.rodata_end)
+          (spread_in Rodata (made_spread 13 made.got 8) (subst (λ k. In (made_spread 13 made.got 8) (last_spreads k g made Rodata)) (sym e) (there (there here)))) refl (omega arith)
+      go Library e =
+          area_span Rwdata (up (class_end p Rodata) (page_of kit g)) 13 (made_spread 13 made.got 8) l.laid.rwdata.areas rwdata_base (sym four.rwdata_end)
+          (spread_in Rwdata (made_spread 13 made.got 8) (subst (λ k. In (made_spread 13 made.got 8) (last_spreads k g made Rwdata)) (sym e) (there (there (there (there here)))))) refl (omega arith)
+
+  -- the dynamic section lies in data
+  pub dynamic_in_data : IsInData p
+  dynamic_in_data = record { ordered = dynamic_span.ordered; inside = λ some. dynamic_inside some }
+    where
+      dynamic_inside : (area_at p 14).start < (area_at p 14).end → ((area_at p 2).start ≤ (area_at p 14).start) × ((area_at p 14).end ≤ (area_at p 2).end)
+      dynamic_inside some =
+          let inside = λ (a : ℕ) (i : InArea p 14 a).
+          (area_in_class p g Rwdata (up (class_end p Rodata) (page_of kit g)) (spreads kit g gaps order made Rwdata) 14 a (made_spread 14 made.dynamic 8) l.laid.rwdata.areas
+          (aligned-spreads kit g gaps order made (positive kit g gaps order made p l.laid l.small l.base l.sound whole) Rwdata) (four.stands Rwdata)
+          (spread_in Rwdata (made_spread 14 made.dynamic 8) (there (there (there (there (in_right (got_spread kit.kind made Rwdata) here)))))) refl base_small rwdata_base
+          (let e = four.rwdata_end in omega (arith, e, in_top Rwdata)) (sym four.rwdata_end) i) in
+          let first = inside (area_at p 14).start (omega arith, some) in
+          let last = inside ((area_at p 14).end - 1) (omega (arith, some), omega (arith, some)) in
+          (first.0, omega (arith, last.1, some))
+
+  -- the headers
+  pub headers_long : length (image_headers kit p g) ≡ headers_size (segments_for kit.kind (page_of kit g) p)
+  headers_long = heads.size
+
+  pub few_phdrs_16 : length (segments_for kit.kind (page_of kit g) p) < 2 ^ 16
+  few_phdrs_16 = let few = few kit inputs g gaps order p l.origin l.laid l.small l.base l.sound whole numbers in omega (arith, few)
+
+  -- a made area has room for its bytes
+  made_room : (c : Class) (n size align : ℕ) → IsAreaInSpan p n → IsMadePart kit inputs g gaps order p l.origin l.laid l.small l.base l.sound whole heads c n size align → HasAreaRoom p n size
+  made_room c n size align s m = elim (cases_lt 0 size) [
+    | inl some ↦
+        let w = made_within kit inputs g gaps order p l.origin l.laid l.small l.base l.sound whole heads c n size align m 0 some in
+        record { known = s.known; starts = s.starts; ends = omega (arith, w.1, in_top c) }
+    | inr none ↦ (let o = s.ordered in let e = s.ends in record { known = s.known; starts = s.starts; ends = omega (arith, none, o, e) })
+  ]
+
+  pub stubs_room : HasAreaRoom p 6 made.stubs
+  stubs_room = made_room Text 6 made.stubs 16 stubs_span (stubs_part kit inputs g gaps order p l.origin l.laid l.small l.base l.sound whole heads)
+
+  pub tables_room : HasAreaRoom p 8 made.tables
+  tables_room = made_room Rodata 8 made.tables 8 tables_span (tables_part kit inputs g gaps order p l.origin l.laid l.small l.base l.sound whole heads)
+
+  pub got_room : HasAreaRoom p 13 made.got
+  got_room = made_room (got_class kit.kind) 13 made.got 8 got_span (got_part kit inputs g gaps order p l.origin l.laid l.small l.base l.sound whole heads)
+
+  pub dynamic_room : HasAreaRoom p 14 made.dynamic
+  dynamic_room = made_room Rwdata 14 made.dynamic 8 dynamic_span (dynamic_part kit inputs g gaps order p l.origin l.laid l.small l.base l.sound whole heads)
 
   -- pieces and gaps
   placed_count : length p.pieces ≡ length g.pieces + length (gap_names gaps)
@@ -145,8 +220,7 @@ module _ (kit : Kit) (inputs : List Input) (g : Graph) (gaps : Option Gaps) (ord
     known = omega (arith, placed_count);
     starts = λ n h. le_unwrapped p _ base_small;
     ends = λ n h.
-        let w = stands_within kit inputs g gaps order p l.kernel l.laid l.small l.base l.sound whole (short kit inputs g gaps order p l.kernel l.laid l.small l.base l.sound whole numbers)
-        (read kit inputs g gaps order p l.kernel l.laid l.small l.base l.sound whole numbers) (piece_at g n).class (piece_part n (piece_at g n)) (piece_home kit g gaps order made p l.laid l.small l.base l.sound whole n h) in
+        let w = stands_within kit inputs g gaps order p l.origin l.laid l.small l.base l.sound whole heads (piece_at g n).class (piece_part n (piece_at g n)) (piece_home kit g gaps order made p l.laid l.small l.base l.sound whole n h) in
         omega (arith, w.1, in_top (piece_at g n).class);
   }
 
@@ -161,8 +235,7 @@ module _ (kit : Kit) (inputs : List Input) (g : Graph) (gaps : Option Gaps) (ord
     known = λ c. let four = ap (λ k. length (gap_names k)) e in omega (arith, placed_count, four, class_small c);
     starts = λ c. le_unwrapped p _ base_small;
     ends = λ c.
-        let w = stands_within kit inputs g gaps order p l.kernel l.laid l.small l.base l.sound whole (short kit inputs g gaps order p l.kernel l.laid l.small l.base l.sound whole numbers)
-        (read kit inputs g gaps order p l.kernel l.laid l.small l.base l.sound whole numbers) c (record { body = body.Gap c; size = gap_size z c; align = 16 }) (gap_in kit g gaps order made z c e) in
+        let w = stands_within kit inputs g gaps order p l.origin l.laid l.small l.base l.sound whole heads c (record { body = body.Gap c; size = gap_size z c; align = 16 }) (gap_in kit g gaps order made z c e) in
         omega (arith, w.1, in_top c);
   }
 
@@ -201,18 +274,10 @@ module _ (kit : Kit) (inputs : List Input) (g : Graph) (gaps : Option Gaps) (ord
   pub fields_inside : AreFieldsInside g
   fields_inside k d h = record {
     piece = (l.sound.fields k d h).piece;
-    inside = inside kit inputs g gaps order p l.kernel l.laid l.small l.base l.sound whole numbers k d h;
+    inside = inside kit inputs g gaps order p l.origin l.laid l.small l.base l.sound whole numbers k d h;
   }
 
   -- each field and its target have a place
-  plain_target : (t : Target) → IsSoundTarget kit g t → is_name t ≡ false
-  plain_target (Place n k) h = refl
-  plain_target (Abs n) h = refl
-  plain_target (Edge n e) h = refl
-  plain_target (Name n) h = let none = ap length (l.sound.kernel l.kernel) in absurd (omega (arith, h, none))
-  plain_target Zero h = refl
-  plain_target Gone h = refl
-
   pub fields_placed : All (IsPlacedField g p) g.fields
   fields_placed k d h =
       let f = l.sound.fields k d h in
@@ -221,6 +286,6 @@ module _ (kit : Kit) (inputs : List Input) (g : Graph) (gaps : Option Gaps) (ord
         piece = omega (arith, placed_count, piece);
         kind = wide_kind (relocation_type (get_or g.fields k d).kind) f.wide;
         target = placed_target (get_or g.fields k d).target f.target;
-        plain = plain_target (get_or g.fields k d).target f.target;
         got = known 13 (omega arith);
+        stubs = known 6 (omega arith);
       }

@@ -20,6 +20,12 @@ pub record IsAreaInSpan (p : Placement) (n : ℕ) : Type 0 where
   pub ordered : (area_at p n).start ≤ (area_at p n).end
   pub ends : (area_at p n).end ≤ p.base + SPAN_LIMIT
 
+-- an area is known, and that many bytes from its start on stand in the span
+pub record HasAreaRoom (p : Placement) (n size : ℕ) : Type 0 where
+  pub known : n < length p.areas
+  pub starts : p.base ≤ (area_at p n).start
+  pub ends : (area_at p n).start + size ≤ p.base + SPAN_LIMIT
+
 -- every piece has an address, and stands in the span
 pub record ArePiecesInSpan (g : Graph) (p : Placement) : Type 0 where
   pub known : length g.pieces ≤ length p.pieces

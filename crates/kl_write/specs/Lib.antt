@@ -1,6 +1,8 @@
-pub mod LaidKernel
+pub mod LaidKits
 pub mod Windows
 pub mod Writes
 pub mod InSpan
 pub mod Targets
 pub mod Values
+pub mod Slots
+pub mod Segments

@@ -1,4 +1,4 @@
-//! Writes the images of kernels.
+//! Writes the images of kernels and libraries.
 #![tactic(auto)]
 
 mod address;
@@ -12,12 +12,13 @@ mod plan;
 mod size;
 mod slots;
 mod values;
+mod whole;
 mod window;
 
 pub use head::headers;
-pub use laws::image_carries;
-pub use numbers::SLOT_SIZE;
-pub use plan::{Plan, fill};
+pub use laws::{image_carries, image_holds};
+pub use plan::{MadeBytes, Plan, fill};
 pub use size::image_size;
-pub use slots::slot_addresses;
-pub use values::field_values;
+pub use slots::{SLOT_SIZE, slot_bytes};
+pub use values::{STUB_SIZE, field_values};
+pub use whole::image;

@@ -1,21 +1,14 @@
-// The numbers that addresses give: slots of the global offset table, and fields.
+// The values of fields, written.
 ghost use Rattle.std.specs.Prelude.{◌≡◌, ◌+◌, ◌*◌, ◌<◌, ◌≤◌, ◌^◌, ◌∷◌, [], length, slice_index_or};
-ghost use Rattle.kl_base.specs.declared.limits.TheConstants.{SPAN_LIMIT};
-ghost use Rattle.kl_model.specs.Laid.{area_at};
 ghost use Rattle.kl_model.specs.Lists.{each};
 ghost use Rattle.kl_model.specs.Relocations.{width as field_width};
-ghost use Rattle.kl_model.specs.declared.area.TheConstants as area;
-ghost use Rattle.kl_write.specs.InSpan.{AreFieldsInside, ArePiecesInSpan, IsAreaInSpan};
+ghost use Rattle.kl_write.specs.InSpan.{AreFieldsInside, ArePiecesInSpan};
 ghost use Rattle.kl_write.specs.Windows.{Shows};
-ghost use Rattle.kl_write.specs.Writes.{address_write, no_field, nth_value_write, value_write};
+ghost use Rattle.kl_write.specs.Writes.{no_field, nth_value_write, value_write};
 
 use crate::place::file_place;
 use crate::window::put_number;
-use kl_model::area::GOT;
-use kl_model::{Graph, Placement, width};
-
-/// The size of a slot of the global offset table, in bytes (psABI).
-pub const SLOT_SIZE: usize = 8;
+use kl_model::{Graph, KitKind, Placement, width};
 
 /// The width of the field of a relocation type, in bytes.
 fn width_of(kind: u8) -> usize
@@ -25,24 +18,12 @@ fn width_of(kind: u8) -> usize
     width(u32::from(kind)) as usize
 }
 
-/// Writes an address into each slot.
-pub fn write_slots(out: &mut [u8], at: usize, placement: &Placement, slots: &[u64])
-    requires area { IsAreaInSpan placement.now area.GOT }
-    requires room { (area_at placement.now area.GOT).start + SLOT_SIZE * length slots.now ≤ placement.now.base + SPAN_LIMIT }
-    requires window { at + length out.old < 2 ^ 63 }
-    ensures { Shows out.old out.new at (each slots.now (address_write placement.now)) }
-{
-    let place = file_place(placement, placement.areas.items()[GOT as usize].start);
-    for slot in 0..slots.len() {
-        put_number(out, at, place + SLOT_SIZE * slot, SLOT_SIZE, slots[slot]);
-    }
-}
-
 /// Writes a value into field `number`.
 fn write_field(
     out: &mut [u8],
     at: usize,
     graph: &Graph,
+    kind: KitKind,
     placement: &Placement,
     number: usize,
     value: u64,
@@ -51,23 +32,30 @@ fn write_field(
     requires fields { AreFieldsInside graph.now }
     requires span { ArePiecesInSpan graph.now placement.now }
     requires window { at + length out.old < 2 ^ 63 }
-    ensures { Shows out.old out.new at (value_write graph.now placement.now (slice_index_or graph.now.fields number no_field) value ∷ []) }
+    ensures { Shows out.old out.new at (value_write kind graph.now placement.now (slice_index_or graph.now.fields number no_field) value ∷ []) }
 {
     let field = &graph.fields.items()[number];
     let address = placement.pieces.items()[field.piece as usize].address;
-    let place = file_place(placement, address) + field.offset as usize;
+    let place = file_place(kind, placement, address) + field.offset as usize;
     put_number(out, at, place, width_of(field.kind), value);
 }
 
 /// Writes a value into each field.
-pub fn write_fields(out: &mut [u8], at: usize, graph: &Graph, placement: &Placement, values: &[u64])
+pub fn write_fields(
+    out: &mut [u8],
+    at: usize,
+    graph: &Graph,
+    kind: KitKind,
+    placement: &Placement,
+    values: &[u64],
+)
     requires values { length values.now ≡ length graph.now.fields }
     requires fields { AreFieldsInside graph.now }
     requires span { ArePiecesInSpan graph.now placement.now }
     requires window { at + length out.old < 2 ^ 63 }
-    ensures { Shows out.old out.new at (each graph.now.fields (nth_value_write graph.now placement.now values.now)) }
+    ensures { Shows out.old out.new at (each graph.now.fields (nth_value_write kind graph.now placement.now values.now)) }
 {
     for number in 0..graph.fields.items().len() {
-        write_field(out, at, graph, placement, number, values[number]);
+        write_field(out, at, graph, kind, placement, number, values[number]);
     }
 }

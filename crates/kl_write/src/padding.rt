@@ -13,17 +13,17 @@ use crate::place::file_place;
 use crate::window::fill_window;
 use kl_base::Class;
 use kl_model::area::{FINI, INIT, INT3, NOP, TEXT, class_number as number_of};
-use kl_model::{Gaps, Graph, Placement};
+use kl_model::{Gaps, Graph, KitKind, Placement};
 
 /// Pads an area of text.
-fn pad_area(out: &mut [u8], at: usize, placement: &Placement, number: u32, byte: u8)
+fn pad_area(out: &mut [u8], at: usize, kind: KitKind, placement: &Placement, number: u32, byte: u8)
     requires area { IsAreaInSpan placement.now number }
     requires window { at + length out.old < 2 ^ 63 }
-    ensures { Shows out.old out.new at (area_write placement.now number byte ∷ []) }
+    ensures { Shows out.old out.new at (area_write kind placement.now number byte ∷ []) }
 {
     let area = placement.areas.items()[number as usize];
-    let from = file_place(placement, area.start);
-    let to = file_place(placement, area.end);
+    let from = file_place(kind, placement, area.start);
+    let to = file_place(kind, placement, area.end);
     fill_window(out, at, from, to - from, byte);
 }
 
@@ -41,28 +41,28 @@ fn pad_between(out: &mut [u8], at: usize, from: usize, to: usize, byte: u8)
 }
 
 /// Zeros before text and behind it, and the padding of text.
-fn pad_text(out: &mut [u8], at: usize, placement: &Placement)
+fn pad_text(out: &mut [u8], at: usize, kind: KitKind, placement: &Placement)
     requires text { IsAreaInSpan placement.now area.TEXT }
     requires window { at + length out.old < 2 ^ 63 }
-    ensures { Shows out.old out.new at (same_from at (length out.old) 0 ∷ area_write placement.now area.TEXT area.INT3 ∷ []) }
+    ensures { Shows out.old out.new at (same_from at (length out.old) 0 ∷ area_write kind placement.now area.TEXT area.INT3 ∷ []) }
 {
     let text = placement.areas.items()[TEXT as usize];
-    let from = file_place(placement, text.start);
-    let to = file_place(placement, text.end);
+    let from = file_place(kind, placement, text.start);
+    let to = file_place(kind, placement, text.end);
     pad_between(out, at, from, to, INT3);
 }
 
 /// Zeros, and the padding of text and of its areas `init` and `fini`.
-pub fn pad(out: &mut [u8], at: usize, placement: &Placement)
+pub fn pad(out: &mut [u8], at: usize, kind: KitKind, placement: &Placement)
     requires text { IsAreaInSpan placement.now area.TEXT }
     requires init { IsAreaInSpan placement.now area.INIT }
     requires fini { IsAreaInSpan placement.now area.FINI }
     requires window { at + length out.old < 2 ^ 63 }
-    ensures { Shows out.old out.new at (same_from at (length out.old) 0 ∷ padding_writes placement.now) }
+    ensures { Shows out.old out.new at (same_from at (length out.old) 0 ∷ padding_writes kind placement.now) }
 {
-    pad_text(out, at, placement);
-    pad_area(out, at, placement, INIT, NOP);
-    pad_area(out, at, placement, FINI, NOP);
+    pad_text(out, at, kind, placement);
+    pad_area(out, at, kind, placement, INIT, NOP);
+    pad_area(out, at, kind, placement, FINI, NOP);
 }
 
 /// The byte by which a class is padded.
@@ -93,15 +93,16 @@ fn pad_gap(
     at: usize,
     graph: &Graph,
     gaps: &Gaps,
+    kind: KitKind,
     placement: &Placement,
     class: Class,
 )
     requires span { AreGapsInSpan graph.now gaps.now placement.now }
     requires window { at + length out.old < 2 ^ 63 }
-    ensures { Shows out.old out.new at (same_from (place_in_file placement.now (place_of placement.now graph.now (body.Gap class))) (gap_size gaps.now class) (padding_of class) ∷ []) }
+    ensures { Shows out.old out.new at (same_from (place_in_file kind placement.now (place_of placement.now graph.now (body.Gap class))) (gap_size gaps.now class) (padding_of class) ∷ []) }
 {
     let index = graph.pieces.items().len() + number_of(class) as usize;
-    let place = file_place(placement, placement.pieces.items()[index].address);
+    let place = file_place(kind, placement, placement.pieces.items()[index].address);
     fill_window(
         out,
         at,
@@ -112,23 +113,37 @@ fn pad_gap(
 }
 
 /// Pads the gaps of the classes that have bytes in the file, if there are gaps.
-pub fn pad_gaps(out: &mut [u8], at: usize, graph: &Graph, gaps: Option<Gaps>, placement: &Placement)
+pub fn pad_gaps(
+    out: &mut [u8],
+    at: usize,
+    graph: &Graph,
+    gaps: Option<Gaps>,
+    kind: KitKind,
+    placement: &Placement,
+)
     requires span { IfSome gaps (λ z. AreGapsInSpan graph.now z placement.now) }
     requires window { at + length out.old < 2 ^ 63 }
-    ensures { Shows out.old out.new at (gap_writes graph.now gaps placement.now) }
+    ensures { Shows out.old out.new at (gap_writes kind graph.now gaps placement.now) }
 {
     if let Some(gaps) = gaps {
-        pad_three(out, at, graph, &gaps, placement);
+        pad_three(out, at, graph, &gaps, kind, placement);
     }
 }
 
 /// Pads the gaps of text, rodata and data.
-fn pad_three(out: &mut [u8], at: usize, graph: &Graph, gaps: &Gaps, placement: &Placement)
+fn pad_three(
+    out: &mut [u8],
+    at: usize,
+    graph: &Graph,
+    gaps: &Gaps,
+    kind: KitKind,
+    placement: &Placement,
+)
     requires span { AreGapsInSpan graph.now gaps.now placement.now }
     requires window { at + length out.old < 2 ^ 63 }
-    ensures { Shows out.old out.new at (gap_writes graph.now (Some gaps.now) placement.now) }
+    ensures { Shows out.old out.new at (gap_writes kind graph.now (Some gaps.now) placement.now) }
 {
-    pad_gap(out, at, graph, gaps, placement, Class::Text);
-    pad_gap(out, at, graph, gaps, placement, Class::Rodata);
-    pad_gap(out, at, graph, gaps, placement, Class::Rwdata);
+    pad_gap(out, at, graph, gaps, kind, placement, Class::Text);
+    pad_gap(out, at, graph, gaps, kind, placement, Class::Rodata);
+    pad_gap(out, at, graph, gaps, kind, placement, Class::Rwdata);
 }

@@ -3,14 +3,14 @@ ghost use Rattle.std.specs.Prelude.{ℕ, ◌≡◌, ◌+◌, ◌<◌, ◌^◌, l
 ghost use Rattle.kl_model.specs.Carries.{piece_at, source};
 ghost use Rattle.kl_model.specs.Sound.{HasSource};
 ghost use Rattle.kl_write.specs.InSpan.{ArePiecesInSpan, AreShort};
-ghost use Rattle.kl_write.specs.LaidKernel.{HaveSources};
+ghost use Rattle.kl_write.specs.LaidKits.{HaveSources};
 ghost use Rattle.kl_write.specs.Windows.{Shows};
 ghost use Rattle.kl_write.specs.Writes.{piece_write, piece_writes};
 
 use crate::place::file_place;
 use crate::window::put_padded;
 use kl_base::Class;
-use kl_model::{Graph, Input, Piece, PieceId, Placement};
+use kl_model::{Graph, Input, KitKind, Piece, PieceId, Placement};
 
 /// The bytes of a piece in the file of its input, if it has some.
 fn bytes_of<'a>(inputs: &'a [Input], piece: &Piece) -> &'a [u8]
@@ -33,6 +33,7 @@ fn write_piece(
     at: usize,
     inputs: &[Input],
     graph: &Graph,
+    kind: KitKind,
     placement: &Placement,
     number: usize,
 )
@@ -41,13 +42,13 @@ fn write_piece(
     requires short { AreShort graph.now }
     requires span { ArePiecesInSpan graph.now placement.now }
     requires window { at + length out.old < 2 ^ 63 }
-    ensures { Shows out.old out.new at (piece_write inputs.now graph.now placement.now number (piece_at graph.now number)) }
+    ensures { Shows out.old out.new at (piece_write kind inputs.now graph.now placement.now number (piece_at graph.now number)) }
 {
     let piece = &graph.pieces.items()[number];
     if piece.class == Class::Bss {
         return;
     }
-    let place = file_place(placement, placement.pieces.items()[number].address);
+    let place = file_place(kind, placement, placement.pieces.items()[number].address);
     put_padded(out, at, place, piece.size as usize, bytes_of(inputs, piece));
 }
 
@@ -57,15 +58,16 @@ pub fn write_pieces(
     at: usize,
     inputs: &[Input],
     graph: &Graph,
+    kind: KitKind,
     placement: &Placement,
 )
     requires sources { HaveSources inputs.now graph.now }
     requires short { AreShort graph.now }
     requires span { ArePiecesInSpan graph.now placement.now }
     requires window { at + length out.old < 2 ^ 63 }
-    ensures { Shows out.old out.new at (piece_writes inputs.now graph.now placement.now) }
+    ensures { Shows out.old out.new at (piece_writes kind inputs.now graph.now placement.now) }
 {
     for number in 0..graph.pieces.items().len() {
-        write_piece(out, at, inputs, graph, placement, number);
+        write_piece(out, at, inputs, graph, kind, placement, number);
     }
 }

@@ -1,53 +1,49 @@
-// How long the file of a kernel is.
-ghost use Rattle.std.specs.Prelude.{ℕ, List, Option, ◌≡◌, ◌==◌, ◌≤◌, if◌then◌else◌, length};
+// How long the file of an image is.
+ghost use Rattle.std.specs.Prelude.{ℕ, List, Option, ◌≡◌, length};
 ghost use Rattle.kl_base.specs.declared.class.Class.{Class};
-ghost use Rattle.kl_base.specs.declared.limits.TheConstants.{BASE_LIMIT};
 ghost use Rattle.kl_model.specs.Areas.{class_number};
-ghost use Rattle.kl_model.specs.Carries.{class_size, ends_at, segments_of};
-ghost use Rattle.kl_model.specs.Laid.{class_end};
-ghost use Rattle.kl_model.specs.declared.graph.Graph.{Graph};
-ghost use Rattle.kl_model.specs.declared.kit.Kit.{Kit};
+ghost use Rattle.kl_model.specs.Image.{image_size as size_of_image};
+ghost use Rattle.kl_model.specs.declared.object.Input.{Input};
 ghost use Rattle.kl_model.specs.declared.place.Gaps.{Gaps};
 ghost use Rattle.kl_write.specs.InSpan.{IsAreaInSpan};
-ghost use Rattle.kl_write.specs.LaidKernel.{HasAreaAddresses, IsLaidKernel};
-ghost use Rattle.kl_write.specs.Writes.{file_place as place_in_file};
+ghost use Rattle.kl_write.specs.LaidKits.{HasAreaAddresses, IsLaidKit, image_headers};
+ghost use Rattle.kl_write.specs.Writes.{class_stop as stop_of_class, classes_stop};
 
 use crate::place::file_place;
 use kl_base::Class;
-use kl_model::Placement;
 use kl_model::area::class_number as number_of;
+use kl_model::{Graph, Kit, KitKind, Placement};
 
 /// Where a class ends in the file, or 0 where it has no byte.
-fn class_stop(placement: &Placement, class: Class) -> usize
+fn class_stop(kind: KitKind, placement: &Placement, class: Class) -> usize
     requires area { IsAreaInSpan placement.now (class_number class) }
-    ensures { result ≡ (if class_size placement.now class == 0 then 0 else place_in_file placement.now (class_end placement.now class)) }
+    ensures { result ≡ stop_of_class kind placement.now class }
 {
     let area = placement.areas.items()[number_of(class) as usize];
     if area.start == area.end {
         0
     } else {
-        file_place(placement, area.end)
+        file_place(kind, placement, area.end)
     }
 }
 
 /// The greatest of the places at which the headers and the classes in the file end.
-fn file_stop(placement: &Placement, headers: usize) -> usize
+fn file_stop(kind: KitKind, placement: &Placement, headers: usize) -> usize
     requires areas { (c : Class) → IsAreaInSpan placement.now (class_number c) }
-    requires base { placement.now.base ≤ BASE_LIMIT }
-    ensures { result ≡ ends_at headers (segments_of placement.now) }
+    ensures { result ≡ classes_stop kind placement.now headers }
 {
     headers
-        .max(class_stop(placement, Class::Text))
-        .max(class_stop(placement, Class::Rodata))
-        .max(class_stop(placement, Class::Rwdata))
+        .max(class_stop(kind, placement, Class::Text))
+        .max(class_stop(kind, placement, Class::Rodata))
+        .max(class_stop(kind, placement, Class::Rwdata))
 }
 
-/// How many bytes the image of a kernel has, with so many bytes of headers: it ends behind them and the last byte of a class that is in
-/// the file.
-pub fn image_size(placement: &Placement, headers: usize) -> usize
-    requires laid { (kit : Kit) × (graph : Graph) × (gaps : Option Gaps) × (order : List ℕ) × IsLaidKernel kit graph gaps order placement.now }
+/// How many bytes an image has, with so many bytes of headers: it ends behind them and the last byte of a class that is in the file.
+pub fn image_size(kit: &Kit, graph: &Graph, placement: &Placement, headers: usize) -> usize
+    requires laid { (gaps : Option Gaps) × (order : List ℕ) × IsLaidKit kit.now graph.now gaps order placement.now }
     requires addresses { HasAreaAddresses placement.now }
-    ensures { result ≡ ends_at headers (segments_of placement.now) }
+    requires headers { headers ≡ length (image_headers kit.now placement.now graph.now) }
+    ensures { (inputs : List Input) (gaps : Option Gaps) → result ≡ size_of_image kit.now inputs graph.now gaps placement.now }
 {
-    file_stop(placement, headers)
+    file_stop(kit.kind, placement, headers)
 }

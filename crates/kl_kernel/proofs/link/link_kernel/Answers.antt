@@ -2,7 +2,7 @@ use Rattle.std.proofs.Common.{◌∙◌, ap, inl, inr}
 use Rattle.std.specs.Option.{option_copied}
 use Rattle.std.proofs.lemmas.Result.{err_from_is_err_and}
 use Rattle.kl_layout.specs.Spans.{as_link_fault}
-use Rattle.kl_write.proofs.KernelValues.{few_slots}
+use Rattle.kl_write.proofs.FewSlots.{few_slots}
 use Rattle.kl_kernel.proofs.LinkFaults.{first_of_names}
 use Rattle.kl_kernel.proofs.LinkSteps.{addresses, carries_kit, few_placed, graph_order, laid_kernel, made_small, none_stands, range_is, sources, span_is}
 use Rattle.kl_kernel.proofs.RoomyKits.{roomy_err}
@@ -16,8 +16,8 @@ returns-in_err-graph-clause-err c =
       | inr e ↦ inr (first_of_names c.args.kit.now c.args.inputs.now (option_copied c.args.gaps) c.args.order.now _ e)
     ])
 
-pub made_areas-requires : goal.made_areas-requires
-made_areas-requires c = rw (c.items-slots.ensures, c.in_ok-needs.ensures.slots) (few_slots c.args.kit.now c.in_ok-graph.graph c.in_ok-graph.ensures.graph)
+pub made_areas-made-requires : goal.made_areas-made-requires
+made_areas-made-requires c = rw (c.items.ensures, c.in_ok-needs.ensures.slots) (few_slots c.args.kit.now c.in_ok-graph.graph c.in_ok-graph.ensures.graph)
 
 pub place-requires-clause-order : goal.place-requires-clause-order
 place-requires-clause-order c = let q = c.requires in graph_order c.args.kit.now c.args.inputs.now (option_copied c.args.gaps) c.args.order.now q.kit q.kernel q.inputs q.order c.in_ok-graph.graph c.in_ok-graph.ensures.ok c.in_ok-graph.ensures.graph
@@ -26,7 +26,7 @@ pub place-requires-clause-made : goal.place-requires-clause-made
 place-requires-clause-made c =
     let q = c.requires in
     made_small c.args.kit.now c.args.inputs.now (option_copied c.args.gaps) c.args.order.now q.kit q.kernel q.inputs q.order c.in_ok-graph.graph c.in_ok-graph.ensures.ok c.in_ok-graph.ensures.graph
-    c.made_areas.result (c.made_areas.ensures c.args.kit.now c.in_ok-graph.graph q.kernel (c.items-slots.ensures ∙ c.in_ok-needs.ensures.slots))
+    c.made_areas-made.result (c.made_areas-made.ensures c.args.kit.now c.in_ok-graph.graph q.kernel (c.items.ensures ∙ c.in_ok-needs.ensures.slots))
 
 pub returns-in_err-placement-clause-err : goal.returns-in_err-placement-clause-err
 returns-in_err-placement-clause-err c =
@@ -35,7 +35,7 @@ returns-in_err-placement-clause-err c =
     rw (r.1, r.2) (elim c.in_err-placement.ensures.err [
       | inl a ↦ inl (ap as_link_fault a)
       | inr e ↦ inr (span_is c.args.kit.now c.args.inputs.now (option_copied c.args.gaps) c.args.order.now q.kit q.kernel q.inputs q.order c.in_ok-graph.graph c.in_ok-graph.ensures.ok c.in_ok-graph.ensures.graph
-          c.made_areas.result (c.made_areas.ensures c.args.kit.now c.in_ok-graph.graph q.kernel (c.items-slots.ensures ∙ c.in_ok-needs.ensures.slots)) c.in_ok-graph.ensures.sound _ e)
+          c.made_areas-made.result (c.made_areas-made.ensures c.args.kit.now c.in_ok-graph.graph q.kernel (c.items.ensures ∙ c.in_ok-needs.ensures.slots)) c.in_ok-graph.ensures.sound _ e)
     ])
 
 pub kernel_image-requires-clause-laid : goal.kernel_image-requires-clause-laid
@@ -43,14 +43,14 @@ kernel_image-requires-clause-laid c =
     let q = c.requires in let p = c.in_ok-placement.ensures in (
       c.args.order.now,
       laid_kernel c.args.kit.now c.args.inputs.now (option_copied c.args.gaps) c.args.order.now q.kit q.kernel q.inputs q.order c.in_ok-graph.graph c.in_ok-graph.ensures.ok c.in_ok-graph.ensures.graph
-          c.made_areas.result (c.made_areas.ensures c.args.kit.now c.in_ok-graph.graph q.kernel (c.items-slots.ensures ∙ c.in_ok-needs.ensures.slots)) c.in_ok-placement.placement p.laid p.names p.placed p.small,
+          c.made_areas-made.result (c.made_areas-made.ensures c.args.kit.now c.in_ok-graph.graph q.kernel (c.items.ensures ∙ c.in_ok-needs.ensures.slots)) c.in_ok-placement.placement p.laid p.names p.placed p.small,
     )
 
 pub kernel_image-requires-clause-addresses : goal.kernel_image-requires-clause-addresses
 kernel_image-requires-clause-addresses c =
     let q = c.requires in let p = c.in_ok-placement.ensures in
     addresses c.args.kit.now c.args.inputs.now (option_copied c.args.gaps) c.args.order.now q.kit q.kernel q.inputs q.order c.in_ok-graph.graph c.in_ok-graph.ensures.ok c.in_ok-graph.ensures.graph
-    c.made_areas.result (c.made_areas.ensures c.args.kit.now c.in_ok-graph.graph q.kernel (c.items-slots.ensures ∙ c.in_ok-needs.ensures.slots)) c.in_ok-placement.placement p.laid p.names p.placed p.small
+    c.made_areas-made.result (c.made_areas-made.ensures c.args.kit.now c.in_ok-graph.graph q.kernel (c.items.ensures ∙ c.in_ok-needs.ensures.slots)) c.in_ok-placement.placement p.laid p.names p.placed p.small
 
 pub kernel_image-requires-clause-sources : goal.kernel_image-requires-clause-sources
 kernel_image-requires-clause-sources c = let q = c.requires in sources c.args.kit.now c.args.inputs.now (option_copied c.args.gaps) c.args.order.now q.kit q.kernel q.inputs q.order c.in_ok-graph.graph c.in_ok-graph.ensures.ok c.in_ok-graph.ensures.graph
@@ -62,27 +62,27 @@ returns-in_err-image-clause-err c =
     rw (r.1, r.2) (elim c.in_err-image.ensures.err [
       | inl a ↦ inl a
       | inr e ↦ inr (range_is c.args.kit.now c.args.inputs.now (option_copied c.args.gaps) c.args.order.now q.kit q.kernel q.inputs q.order c.in_ok-graph.graph c.in_ok-graph.ensures.ok c.in_ok-graph.ensures.graph
-          c.made_areas.result (c.made_areas.ensures c.args.kit.now c.in_ok-graph.graph q.kernel (c.items-slots.ensures ∙ c.in_ok-needs.ensures.slots)) c.in_ok-placement.placement p.laid p.names p.placed p.small c.in_ok-graph.ensures.sound ∙ e)
+          c.made_areas-made.result (c.made_areas-made.ensures c.args.kit.now c.in_ok-graph.graph q.kernel (c.items.ensures ∙ c.in_ok-needs.ensures.slots)) c.in_ok-placement.placement p.laid p.names p.placed p.small c.in_ok-graph.ensures.sound ∙ e)
     ])
 
 pub returns-clause-ok : goal.returns-clause-ok
 returns-clause-ok c =
     let q = c.requires in let p = c.in_ok-placement.ensures in
     carries_kit c.args.kit.now c.args.inputs.now (option_copied c.args.gaps) c.args.order.now q.kit q.kernel q.inputs q.order c.in_ok-graph.graph c.in_ok-graph.ensures.ok c.in_ok-graph.ensures.graph
-    c.made_areas.result (c.made_areas.ensures c.args.kit.now c.in_ok-graph.graph q.kernel (c.items-slots.ensures ∙ c.in_ok-needs.ensures.slots)) c.in_ok-placement.placement p.laid p.names p.placed p.small
+    c.made_areas-made.result (c.made_areas-made.ensures c.args.kit.now c.in_ok-graph.graph q.kernel (c.items.ensures ∙ c.in_ok-needs.ensures.slots)) c.in_ok-placement.placement p.laid p.names p.placed p.small
     c.in_ok-graph.ensures.sound c.in_ok-image.ensures.sound c.in_ok-image.image.items c.in_ok-image.ensures.image
 
 pub returns-clause-few : goal.returns-clause-few
 returns-clause-few c =
     let q = c.requires in let p = c.in_ok-placement.ensures in
     few_placed c.args.kit.now c.args.inputs.now (option_copied c.args.gaps) c.args.order.now q.kit q.kernel q.inputs q.order c.in_ok-graph.graph c.in_ok-graph.ensures.ok c.in_ok-graph.ensures.graph
-    c.made_areas.result (c.made_areas.ensures c.args.kit.now c.in_ok-graph.graph q.kernel (c.items-slots.ensures ∙ c.in_ok-needs.ensures.slots)) c.in_ok-placement.placement p.laid p.names p.placed p.small
+    c.made_areas-made.result (c.made_areas-made.ensures c.args.kit.now c.in_ok-graph.graph q.kernel (c.items.ensures ∙ c.in_ok-needs.ensures.slots)) c.in_ok-placement.placement p.laid p.names p.placed p.small
 
 pub returns-clause-sound : goal.returns-clause-sound
 returns-clause-sound c =
     let q = c.requires in let p = c.in_ok-placement.ensures in
     none_stands c.args.kit.now c.args.inputs.now (option_copied c.args.gaps) c.args.order.now q.kit q.kernel q.inputs q.order c.in_ok-graph.graph c.in_ok-graph.ensures.ok c.in_ok-graph.ensures.graph
-    c.made_areas.result (c.made_areas.ensures c.args.kit.now c.in_ok-graph.graph q.kernel (c.items-slots.ensures ∙ c.in_ok-needs.ensures.slots)) c.in_ok-placement.placement p.laid p.names p.placed p.small
+    c.made_areas-made.result (c.made_areas-made.ensures c.args.kit.now c.in_ok-graph.graph q.kernel (c.items.ensures ∙ c.in_ok-needs.ensures.slots)) c.in_ok-placement.placement p.laid p.names p.placed p.small
     c.in_ok-graph.ensures.sound c.in_ok-image.ensures.sound
 
 pub returns-in_err-graph-clause-roomy : goal.returns-in_err-graph-clause-roomy

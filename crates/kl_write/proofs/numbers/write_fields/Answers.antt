@@ -8,4 +8,4 @@ pub loop-number-preserved : goal.loop-number-preserved
 loop-number-preserved c =
     let g = c.args.graph.now in let p = c.args.placement.now in let n = c.loop-number.number in
     let less : n < length g.fields = rw c.items-number-end.ensures at c.loop-number-test.true in
-    rw (each_more (nth_value_write g p c.args.values.now) g.fields n no_field less) (shows-append c.args.out.now c.loop-number.out c.write_field.new.out c.args.at _ _ c.loop-number.invariant c.write_field.ensures)
+    rw (each_more (nth_value_write c.args.kind g p c.args.values.now) g.fields n no_field less) (shows-append c.args.out.now c.loop-number.out c.write_field.new.out c.args.at _ _ c.loop-number.invariant c.write_field.ensures)

@@ -9,9 +9,9 @@ pub returns : goal.returns
 returns c =
     let p = c.args.placement.now in let n = c.args.number in let a = c.requires.area in
     let same : get_or c.items.result.now n zero_area ≡ get_or p.areas n no_area = rw c.items.ensures (get_or_default p.areas n zero_area no_area a.known) in
-    let from : c.file_place-from.result ≡ file_place p (area_at p n).start = rw same at c.file_place-from.ensures in
-    let to : c.file_place-to.result ≡ file_place p (area_at p n).end = rw same at c.file_place-to.ensures in
+    let from : c.file_place-from.result ≡ file_place c.args.kind p (area_at p n).start = rw same at c.file_place-from.ensures in
+    let to : c.file_place-to.result ≡ file_place c.args.kind p (area_at p n).end = rw same at c.file_place-to.ensures in
     let starts = a.starts in
     let ordered = a.ordered in
-    let count : file_place p (area_at p n).end - file_place p (area_at p n).start ≡ (area_at p n).end - (area_at p n).start = omega (arith, starts, ordered) in
+    let count : file_place c.args.kind p (area_at p n).end - file_place c.args.kind p (area_at p n).start ≡ (area_at p n).end - (area_at p n).start = omega (arith, starts, ordered) in
     rw (from, to, count) at c.fill_window.ensures

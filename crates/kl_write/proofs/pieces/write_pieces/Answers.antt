@@ -9,4 +9,4 @@ pub loop-number-preserved : goal.loop-number-preserved
 loop-number-preserved c =
     let g = c.args.graph.now in let p = c.args.placement.now in let inputs = c.args.inputs.now in let n = c.loop-number.number in
     let less : n < length g.pieces = rw c.items-number-end.ensures at c.loop-number-test.true in
-    rw (each_more (piece_write inputs g p) g.pieces n no_piece less) (shows-append c.args.out.now c.loop-number.out c.write_piece.new.out c.args.at _ _ c.loop-number.invariant c.write_piece.ensures)
+    rw (each_more (piece_write c.args.kind inputs g p) g.pieces n no_piece less) (shows-append c.args.out.now c.loop-number.out c.write_piece.new.out c.args.at _ _ c.loop-number.invariant c.write_piece.ensures)

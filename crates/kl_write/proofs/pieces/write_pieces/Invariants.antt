@@ -5,4 +5,4 @@ use Rattle.kl_write.specs.Writes.{piece_write}
 use Rattle.kl_write.proofs.pieces.write_pieces.Given as goal
 
 abbrev pub invariant-loop-number : goal.invariant-loop-number
-invariant-loop-number l = Shows l.initial.out l.out l.at (each (take l.number l.graph.pieces) (piece_write l.inputs l.graph l.placement))
+invariant-loop-number l = Shows l.initial.out l.out l.at (each (take l.number l.graph.pieces) (piece_write l.kind l.inputs l.graph l.placement))

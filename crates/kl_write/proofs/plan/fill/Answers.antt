@@ -1,9 +1,6 @@
-use Rattle.std.proofs.Common.{◌≡◌, ◌∙◌, length, ap, arith}
-use Rattle.std.proofs.lemmas.List.{length-map}
-use Rattle.kl_model.specs.Slots.{slots}
-use Rattle.kl_model.specs.Leads.{address_of}
-use Rattle.kl_write.proofs.Filled.{filled}
-use Rattle.kl_write.proofs.Spans.{fields_inside, fini_span, gaps_span, got_span, init_span, pieces_span, short_pieces, slots_room, text_span}
+use Rattle.std.proofs.Common.{◌∙◌}
+use Rattle.kl_write.proofs.Filled.{filled, made_are}
+use Rattle.kl_write.proofs.Spans.{dynamic_room, fields_inside, fini_span, gaps_span, got_room, init_span, pieces_span, short_pieces, stubs_room, tables_room, text_span}
 use Rattle.kl_write.proofs.plan.fill.Goals as goal
 
 pub pad-requires-clause-text : goal.pad-requires-clause-text
@@ -30,16 +27,25 @@ pub pad_gaps-requires-clause-span : goal.pad_gaps-requires-clause-span
 pad_gaps-requires-clause-span c =
     let x = c.args.plan.now in gaps_span x.kit.now c.args.inputs.now x.graph.now x.gaps c.requires.laid.0 x.placement.now c.requires.laid.1 c.requires.addresses
 
-pub write_slots-requires-clause-area : goal.write_slots-requires-clause-area
-write_slots-requires-clause-area c =
-    let x = c.args.plan.now in got_span x.kit.now c.args.inputs.now x.graph.now x.gaps c.requires.laid.0 x.placement.now c.requires.laid.1 c.requires.addresses
-
-pub write_slots-requires-clause-room : goal.write_slots-requires-clause-room
-write_slots-requires-clause-room c =
+pub write_made-requires-clause-stubs : goal.write_made-requires-clause-stubs
+write_made-requires-clause-stubs c =
     let x = c.args.plan.now in
-    let room = slots_room x.kit.now c.args.inputs.now x.graph.now x.gaps c.requires.laid.0 x.placement.now c.requires.laid.1 c.requires.addresses in
-    let count : length c.deref.result.now ≡ length (slots x.graph.now) = ap length (c.deref.ensures.value ∙ c.requires.slots) ∙ length-map (slots x.graph.now) (address_of x.placement.now x.graph.now) in
-    omega (arith, room, count)
+    rw (c.requires.stubs, c.requires.sizes.stubs) (stubs_room x.kit.now c.args.inputs.now x.graph.now x.gaps c.requires.laid.0 x.placement.now c.requires.laid.1 c.requires.addresses)
+
+pub write_made-requires-clause-tables : goal.write_made-requires-clause-tables
+write_made-requires-clause-tables c =
+    let x = c.args.plan.now in
+    rw (c.requires.tables, c.requires.sizes.tables) (tables_room x.kit.now c.args.inputs.now x.graph.now x.gaps c.requires.laid.0 x.placement.now c.requires.laid.1 c.requires.addresses)
+
+pub write_made-requires-clause-got : goal.write_made-requires-clause-got
+write_made-requires-clause-got c =
+    let x = c.args.plan.now in
+    rw (c.requires.got, c.requires.sizes.got) (got_room x.kit.now c.args.inputs.now x.graph.now x.gaps c.requires.laid.0 x.placement.now c.requires.laid.1 c.requires.addresses)
+
+pub write_made-requires-clause-dynamic : goal.write_made-requires-clause-dynamic
+write_made-requires-clause-dynamic c =
+    let x = c.args.plan.now in
+    rw (c.requires.dynamic, c.requires.sizes.dynamic) (dynamic_room x.kit.now c.args.inputs.now x.graph.now x.gaps c.requires.laid.0 x.placement.now c.requires.laid.1 c.requires.addresses)
 
 pub write_fields-requires-clause-fields : goal.write_fields-requires-clause-fields
 write_fields-requires-clause-fields c =
@@ -52,7 +58,8 @@ write_fields-requires-clause-span c =
 pub returns-clause-bytes : goal.returns-clause-bytes
 returns-clause-bytes c =
     let x = c.args.plan.now in
-    filled x.kit.now c.args.inputs.now x.graph.now x.gaps c.requires.laid.0 x.placement.now c.requires.laid.1 c.requires.addresses
-    c.args.out.now c.pad.new.out c.write_pieces.new.out c.pad_gaps.new.out c.write_slots.new.out c.write_fields.new.out c.put_window.new.out c.args.at _ _ _
-    c.pad.ensures c.write_pieces.ensures c.pad_gaps.ensures c.write_slots.ensures c.write_fields.ensures c.put_window.ensures
-    (c.deref-3.ensures.value ∙ c.requires.head) (c.deref.ensures.value ∙ c.requires.slots) (c.deref-2.ensures.value ∙ c.requires.values)
+    filled x.kit.now c.args.inputs.now x.graph.now x.gaps c.requires.laid.0 x.placement.now c.requires.laid.1 c.requires.addresses c.requires.sizes
+    c.args.out.now c.pad.new.out c.write_pieces.new.out c.pad_gaps.new.out c.write_made.new.out c.write_fields.new.out c.put_window.new.out c.args.at _ _ _
+    c.pad.ensures c.write_pieces.ensures c.pad_gaps.ensures c.write_made.ensures c.write_fields.ensures c.put_window.ensures
+    (c.deref-2.ensures.value ∙ c.requires.head) (made_are x.kit.now c.args.inputs.now x.graph.now x.placement.now _ _ _ _ c.requires.stubs c.requires.tables c.requires.got c.requires.dynamic)
+    (c.deref.ensures.value ∙ c.requires.values)

@@ -2,8 +2,9 @@ use Rattle.std.proofs.Common.{◌≡◌, ◌∙◌, [], get_or, refl, sym, inr}
 use Rattle.std.specs.Prelude.{Some, slice_get}
 use Rattle.std.proofs.lemmas.List.{append-nil, map_more}
 use Rattle.std.proofs.lemmas.Result.{err_from_is_err_and}
+use Rattle.kl_model.specs.Leads.{filed_value}
 use Rattle.kl_model.proofs.Each.{each_first, each_more}
-use Rattle.kl_write.specs.Values.{kernel_value, range_faults_of}
+use Rattle.kl_write.specs.Values.{range_faults_of}
 use Rattle.kl_got.proofs.Walked.{zero_field}
 use Rattle.kl_write.proofs.values.values_of.Goals as goal
 
@@ -34,6 +35,6 @@ loop-field-preserved c =
     let fits = rw items at c.in_ok-field_value.ensures.fits in
     let none : range_faults_of p g (get_or g.fields n zero_field) ≡ [] = rw fits refl in
     record {
-      values = c.in_ok-push.ensures.items ∙ (rw (c.loop-field.invariant.values, value) (sym (map_more (kernel_value p g) g.fields n zero_field h)));
+      values = c.in_ok-push.ensures.items ∙ (rw (c.loop-field.invariant.values, value) (sym (map_more (filed_value c.args.kit.now p g) g.fields n zero_field h)));
       fit = rw (each_more (λ k f. range_faults_of p g f) g.fields n zero_field h, none, append-nil) c.loop-field.invariant.fit;
     }

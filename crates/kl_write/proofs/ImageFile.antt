@@ -1,10 +1,10 @@
--- The headers and the rest of the file of a kernel's image that is made place by place.
-use Rattle.std.proofs.Common.{ℕ, zero, suc, ◌≡◌, ◌+◌, ◌-◌, ◌*◌, ◌^◌, ◌<◌, ◌≤◌, ◌∙◌, List, [], ◌∷◌, ◌++◌, length, refl, ap, sym, subst, arith, Bool, true, false, not, nat_eq, inl, inr, ◌&&◌, length-append}
+-- The headers and the rest of the file of an image that is made place by place.
+use Rattle.std.proofs.Common.{ℕ, zero, suc, ◌≡◌, ◌+◌, ◌*◌, ◌^◌, ◌<◌, ◌≤◌, ◌∙◌, List, [], ◌∷◌, ◌++◌, length, map, refl, ap, sym, subst, arith, Bool, true, false, not, nat_eq, inl, inr, ◌&&◌, length-append}
 use Rattle.std.specs.Prelude.{Some, None, Option, IfSome, slice_index, flat_map, find, cond, nat_lt, ◌==◌, All}
 use Rattle.std.specs.Option.{option_map_or}
 use Rattle.std.proofs.lemmas.Bool.{lt-ltb, le-ltb, cases_lt, cases_Bool, ne_eqb}
-use Rattle.std.proofs.lemmas.List.{get_or_past}
-use Rattle.std.proofs.lemmas.List.Elements.{All-append}
+use Rattle.std.proofs.lemmas.List.{get_or_past, length-map}
+use Rattle.std.proofs.lemmas.List.Elements.{All-append, All-cons}
 use Rattle.std.proofs.lemmas.List.FromFn.{length-map-range_with_len}
 use Rattle.kl_base.specs.declared.class.Class.{Class}
 use Rattle.kl_base.specs.declared.class.Class.TheVariants.{Text, Rodata, Rwdata, Bss}
@@ -14,7 +14,7 @@ use Rattle.kl_elf.specs.declared.records.Ehdr.{Ehdr}
 use Rattle.kl_elf.specs.declared.records.Phdr.{Phdr}
 use Rattle.kl_model.specs.Areas.{class_number}
 use Rattle.kl_model.specs.Memory.{segments}
-use Rattle.kl_model.specs.Carries.{File, class_size, ends_at, head_for, is_in_file, kernel_head, offset_for, permission, segment_of, segments_for, segments_of}
+use Rattle.kl_model.specs.Carries.{File, class_segments, class_size, dynamic_segment, ends_at, head_for, headers_segment, is_in_file, library_segments, offset_for, permission, segment_of, segments_for, segments_of}
 use Rattle.kl_model.specs.Image.{class_on, head_bytes, image_byte, image_bytes, image_size, is_within, phdrs}
 use Rattle.kl_model.specs.Laid.{area_at}
 use Rattle.kl_model.specs.Leads.{address_of}
@@ -27,10 +27,12 @@ use Rattle.kl_model.proofs.ImageBytes.{image_at}
 use Rattle.kl_model.proofs.ClassMemory.{InOrder, start_past_base}
 use Rattle.kl_model.proofs.Covered.{In, here, there}
 use Rattle.kl_model.proofs.Each.{all-only_if}
-use Rattle.kl_write.proofs.FileBytes.{le-ends, ends_before, within_not, and_false, in_segments, phdrs_are}
+use Rattle.kl_write.proofs.FileBytes.{le-ends, ends_before, within_not, and_false}
+use Rattle.kl_write.specs.Segments.{segment_by}
+use Rattle.kl_write.proofs.FileSegments.{headers_size, in_segments, length-library, move_all, moved_to, segment_filesz, segment_offset}
 use Rattle.kl_write.proofs.ReadHeaders.{HasAt, has_left, has_right, IsSmallPhdr, IsSmallEhdr, length-phdrs, read_ehdr, read_phdrs}
 use Rattle.kl_model.specs.declared.kit.KitKind.{KitKind}
-use Rattle.kl_model.specs.declared.kit.KitKind.TheVariants.{Kernel}
+use Rattle.kl_model.specs.declared.kit.KitKind.TheVariants.{Kernel, Library}
 use Rattle.kl_model.specs.declared.place.Gaps.{Gaps}
 use Rattle.kl_model.specs.declared.place.Placement.{Placement}
 use Rattle.kl_model.specs.declared.graph.Graph.{Graph}
@@ -135,12 +137,65 @@ module _ (p : Placement) (o : InOrder p) (limit : p.base ≤ BASE_LIMIT) (top : 
         len_some Bss,
       )
 
+  -- those of a library
+  small_moved_one : (n : ℕ) → n < 256 ^ 8 → (s : Phdr) → IsSmallPhdr s → IsSmallPhdr (moved_to n s)
+  small_moved_one n h s f =
+      record { kind = f.kind; flags = f.flags; offset = f.vaddr; vaddr = f.vaddr; paddr = f.paddr; filesz = f.filesz; memsz = f.memsz; align = h }
+
+  small_moved : (n : ℕ) → n < 256 ^ 8 → (ss : List Phdr) → All IsSmallPhdr ss → All IsSmallPhdr (map (moved_to n) ss)
+  small_moved n h [] a = no_phdr
+  small_moved n h (s ∷ ss) a =
+      All-cons IsSmallPhdr (moved_to n s) (map (moved_to n) ss) (small_moved_one n h s (a 0 s (omega arith))) (small_moved n h ss (λ j e m. a (suc j) e (omega (arith, m))))
+
+  -- the dynamic section stands at numbers of 64 bits
+  abbrev pub HasDynamic : Type 0
+  HasDynamic = ((area_at p 14).start < 2 ^ 64) × ((area_at p 14).end < 2 ^ 64)
+
+  module _ (n : ℕ) (page : n < 256 ^ 8) where
+    length-between : length (class_segments n p) ≤ 4
+    length-between = omega (arith, ap length (move_all n p classes), length-map (segments_of p) (moved_to n), few_segments)
+
+    small_front : IsSmallPhdr (headers_segment n (64 + 56 * (2 + length (class_segments n p))))
+    small_front = record {
+      kind = omega arith;
+      flags = omega arith;
+      offset = omega arith;
+      vaddr = omega arith;
+      paddr = omega arith;
+      filesz = omega (arith, length-between);
+      memsz = omega (arith, length-between);
+      align = page;
+    }
+
+    small_dynamic : HasDynamic → IsSmallPhdr (dynamic_segment p)
+    small_dynamic dynamic = record {
+      kind = omega arith;
+      flags = omega arith;
+      offset = omega (arith, dynamic.0);
+      vaddr = omega (arith, dynamic.0);
+      paddr = omega (arith, dynamic.0);
+      filesz = omega (arith, dynamic.1);
+      memsz = omega (arith, dynamic.1);
+      align = omega arith;
+    }
+
+    pub small_all : (k : KitKind) → (k ≡ Library → HasDynamic) → All IsSmallPhdr (segments_for k n p)
+    small_all Kernel dynamic = small_segments
+    small_all Library dynamic =
+        All-cons IsSmallPhdr _ _ small_front
+        (All-append IsSmallPhdr (class_segments n p) (dynamic_segment p ∷ []) (subst (All IsSmallPhdr) (sym (move_all n p classes)) (small_moved n page (segments_of p) small_segments))
+        (All-cons IsSmallPhdr (dynamic_segment p) [] (small_dynamic (dynamic refl)) no_phdr))
+
+    pub few_all : (k : KitKind) → length (segments_for k n p) ≤ 6
+    few_all Kernel = omega (arith, few_segments)
+    few_all Library = omega (arith, length-library n p, length-between)
+
   small_entry : (g : Graph) (e : Option Target) → IfSome e (λ t. address_of p g t < 2 ^ 64) → option_map_or (address_of p g) e 0 < 256 ^ 8
   small_entry g None h = omega arith
   small_entry g (Some t) h = omega (arith, h)
 
-  small_head : (g : Graph) → IfSome g.entry (λ t. address_of p g t < 2 ^ 64) → IsSmallEhdr (kernel_head p g)
-  small_head g h = record {
+  small_head : (k : KitKind) (ss : List Phdr) (g : Graph) → length ss ≤ 6 → IfSome g.entry (λ t. address_of p g t < 2 ^ 64) → IsSmallEhdr (head_for k ss p g)
+  small_head Kernel ss g few h = record {
     ident = refl;
     kind = omega arith;
     machine = omega arith;
@@ -156,23 +211,52 @@ module _ (p : Placement) (o : InOrder p) (limit : p.base ≤ BASE_LIMIT) (top : 
     shnum = omega arith;
     shstrndx = omega arith;
   }
+  small_head Library ss g few h = record {
+    ident = refl;
+    kind = omega arith;
+    machine = omega arith;
+    version = omega arith;
+    entry = small_entry g g.entry h;
+    phoff = omega arith;
+    shoff = omega arith;
+    flags = omega arith;
+    ehsize = omega arith;
+    phentsize = omega arith;
+    phnum = omega (arith, few);
+    shentsize = omega arith;
+    shnum = omega arith;
+    shstrndx = omega arith;
+  }
 
-  length-head : (g : Graph) → length (ehdr_bytes (kernel_head p g)) ≡ 64
-  length-head g = refl
+  length-head : (k : KitKind) (ss : List Phdr) (g : Graph) → length (ehdr_bytes (head_for k ss p g)) ≡ 64
+  length-head Kernel ss g = refl
+  length-head Library ss g = refl
 
-  module _ (kit : Kit) (inputs : List Input) (g : Graph) (gaps : Option Gaps) (kernel : kit.kind ≡ Kernel) (entry : IfSome g.entry (λ t. address_of p g t < 2 ^ 64)) where
+  -- what a header names is read again
+  read_all : (b : List ℕ) (k : KitKind) (n : ℕ) (g : Graph) → All IsSmallPhdr (segments_for k n p) → HasAt b 64 (flat_map phdr_bytes (segments_for k n p))
+      → phdrs_from b (head_for k (segments_for k n p) p g).phoff (head_for k (segments_for k n p) p g).phnum ≡ segments_for k n p
+  read_all b Kernel n g f h = read_some b (segments_of p) f h
+  read_all b Library n g f h = read_phdrs b 64 (library_segments n p) f h
+
+  module _ (kit : Kit) (inputs : List Input) (g : Graph) (gaps : Option Gaps) (page : page_of kit g < 256 ^ 8)
+      (dynamic : kit.kind ≡ Library → HasDynamic) (entry : IfSome g.entry (λ t. address_of p g t < 2 ^ 64)) where
     abbrev img : List ℕ
     img = image_bytes kit inputs g gaps p
 
-    pub head_is : head_bytes kit inputs g gaps p ≡ ehdr_bytes (kernel_head p g) ++ flat_map phdr_bytes (segments_of p)
-    head_is = ap (λ k. ehdr_bytes (head_for k (segments_for k (page_of kit g) p) p g) ++ flat_map phdr_bytes (segments_for k (page_of kit g) p)) kernel
+    abbrev ss : List Phdr
+    ss = phdrs kit inputs g gaps p
 
-    pub length-headers : length (head_bytes kit inputs g gaps p) ≡ 64 + 56 * length (segments_of p)
-    length-headers =
-        ap length head_is ∙ omega (arith, length-append (ehdr_bytes (kernel_head p g)) (flat_map phdr_bytes (segments_of p)), length-head g, length-phdrs (segments_of p))
+    abbrev first : Ehdr
+    first = head_for kit.kind ss p g
+
+    pub few_phdrs : length (phdrs kit inputs g gaps p) ≤ 6
+    few_phdrs = few_all (page_of kit g) page kit.kind
+
+    pub length-headers : length (head_bytes kit inputs g gaps p) ≡ headers_size (phdrs kit inputs g gaps p)
+    length-headers = omega (arith, length-append (ehdr_bytes first) (flat_map phdr_bytes ss), length-head kit.kind ss g, length-phdrs ss)
 
     pub short_headers : length (head_bytes kit inputs g gaps p) ≤ 4096
-    short_headers = omega (arith, length-headers, few_segments)
+    short_headers = omega (arith, length-headers, few_phdrs)
 
     has_all : HasAt img 0 (head_bytes kit inputs g gaps p)
     has_all j l =
@@ -180,53 +264,49 @@ module _ (p : Placement) (o : InOrder p) (limit : p.base ≤ BASE_LIMIT) (top : 
         let inside : j < image_size kit inputs g gaps p = omega (arith, l, le-ends (length (head_bytes kit inputs g gaps p)) (phdrs kit inputs g gaps p)) in
         rw z (image_at kit inputs g gaps p j inside ∙ rw (lt-ltb j (length (head_bytes kit inputs g gaps p)) l) refl)
 
-    has_both : HasAt img 0 (ehdr_bytes (kernel_head p g) ++ flat_map phdr_bytes (segments_of p))
-    has_both = subst (HasAt img 0) head_is has_all
-
     length-img : length img ≡ image_size kit inputs g gaps p
     length-img = length-map-range_with_len (image_byte kit inputs g gaps p) 0 (image_size kit inputs g gaps p)
 
-    pub head : ehdr_at img 0 ≡ kernel_head p g
+    pub head : ehdr_at img 0 ≡ head_for kit.kind (phdrs kit inputs g gaps p) p g
     head =
-        read_ehdr img (kernel_head p g) (omega (arith, length-img, length-headers, le-ends (length (head_bytes kit inputs g gaps p)) (phdrs kit inputs g gaps p)))
-        (small_head g entry) (has_left img 0 (ehdr_bytes (kernel_head p g)) (flat_map phdr_bytes (segments_of p)) has_both)
+        read_ehdr img first (omega (arith, length-img, length-headers, le-ends (length (head_bytes kit inputs g gaps p)) (phdrs kit inputs g gaps p)))
+        (small_head kit.kind ss g few_phdrs entry) (has_left img 0 (ehdr_bytes first) (flat_map phdr_bytes ss) has_all)
 
-    pub headers : segments img ≡ segments_of p
+    pub headers : segments img ≡ phdrs kit inputs g gaps p
     headers =
         ap (λ (h : Ehdr). phdrs_from img h.phoff h.phnum) head
-        ∙ read_some img (segments_of p) small_segments (has_right img 0 64 (ehdr_bytes (kernel_head p g)) (flat_map phdr_bytes (segments_of p)) (omega (arith, length-head g)) has_both)
+        ∙ read_all img kit.kind (page_of kit g) g (small_all (page_of kit g) page kit.kind dynamic)
+        (has_right img 0 64 (ehdr_bytes first) (flat_map phdr_bytes ss) (omega (arith, length-head kit.kind ss g)) has_all)
 
-    pub len : length img ≡ ends_at (64 + 56 * length (segments_of p)) (segments_of p)
-    len = length-img ∙ (ap (ends_at (length (head_bytes kit inputs g gaps p))) (phdrs_are kit inputs g gaps p kernel o) ∙ ap (λ n. ends_at n (segments_of p)) length-headers)
+    pub len : length img ≡ ends_at (headers_size ss) ss
+    len = length-img ∙ ap (λ n. ends_at n ss) length-headers
 
     -- what is in no class
-    no_class : (k : ℕ) → All (λ s. Outside s.offset s.filesz k) (segments_of p) → (d : Class) → (is_in_file d && is_within (4096 + ((area_at p (class_number d)).start - p.base)) (class_size p d) k) ≡ false
+    no_class : (k : ℕ) → All (λ s. Outside s.offset s.filesz k) ss → (d : Class) → (is_in_file d && is_within (offset_for kit.kind p d) (class_size p d) k) ≡ false
     no_class k out d =
-        let at = 4096 + ((area_at p (class_number d)).start - p.base) in
+        let at = offset_for kit.kind p d in
+        let s = segment_by kit.kind (page_of kit g) p d in
         elim (cases_Bool (is_in_file d)) [
           | inr e ↦ rw e refl
           | inl e ↦ and_false (is_in_file d) (is_within at (class_size p d) k) (within_not at (class_size p d) k (elim (cases_lt 0 (class_size p d)) [
             | inl some ↦
-                let size : (segment_of p d).filesz ≡ class_size p d = rw e refl in
-                rw size at (all_in (λ s. Outside s.offset s.filesz k) (segments_of p) (segment_of p d) out (in_segments p d (area_at p (class_number d)).start (omega arith, omega (arith, some))))
+                rw (segment_filesz kit.kind (page_of kit g) p d e, segment_offset kit.kind (page_of kit g) p d) at
+                (all_in (λ s. Outside s.offset s.filesz k) ss s out (in_segments kit.kind (page_of kit g) p d (area_at p (class_number d)).start (omega arith, omega (arith, some))))
             | inr none ↦ elim (cases_lt k at) [ inl x ↦ inl x | inr x ↦ inr (omega (arith, x, none)) ]
           ]))
         ]
 
-    pub zeros : (k : ℕ) → 64 + 56 * length (segments_of p) ≤ k → All (λ s. Outside s.offset s.filesz k) (segments_of p) → slice_index img k ≡ 0
+    pub zeros : (k : ℕ) → headers_size ss ≤ k → All (λ s. Outside s.offset s.filesz k) ss → slice_index img k ≡ 0
     zeros k h out =
         elim (cases_lt k (image_size kit inputs g gaps p)) [
           | inr past ↦ get_or_past img k 0 (omega (arith, length-img, past))
           | inl inside ↦
               let behind : nat_lt k (length (head_bytes kit inputs g gaps p)) ≡ false = le-ltb k (length (head_bytes kit inputs g gaps p)) (omega (arith, length-headers, h)) in
               let none : class_on kit inputs g gaps p k ≡ None =
-              ap (λ (n : KitKind). find (λ c. is_in_file c && is_within (offset_for n p c) (class_size p c) k) classes) kernel
-              ∙ find_no_class (λ d. is_in_file d && is_within (4096 + ((area_at p (class_number d)).start - p.base)) (class_size p d) k) (no_class k out) in
+              find_no_class (λ d. is_in_file d && is_within (offset_for kit.kind p d) (class_size p d) k) (no_class k out) in
               image_at kit inputs g gaps p k inside ∙ rw (behind, none) refl
         ]
 
     -- the headers and the rest of the file
     pub file : File img (head_for kit.kind (segments_for kit.kind (page_of kit g) p) p g) (segments_for kit.kind (page_of kit g) p)
-    file =
-        subst (λ k. File img (head_for k (segments_for k (page_of kit g) p) p g) (segments_for k (page_of kit g) p)) (sym kernel)
-        (record { head = head; segments = headers; len = len; zeros = zeros })
+    file = record { head = head; segments = headers; len = len; zeros = zeros }

@@ -1,5 +1,5 @@
 use Rattle.kl_base.specs.declared.class.Class.TheVariants.{Text, Rodata, Rwdata, Bss}
-use Rattle.kl_write.proofs.head.segments.Goals as goal
+use Rattle.kl_write.proofs.head.class_segments.Goals as goal
 
 pub push_segment-requires-clause-area : goal.push_segment-requires-clause-area
 push_segment-requires-clause-area c = c.requires.areas Text
