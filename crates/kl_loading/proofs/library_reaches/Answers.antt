@@ -1,0 +1,5 @@
+use Rattle.kl_loading.proofs.LibraryFields as fields
+use Rattle.kl_loading.proofs.library_reaches.Goals as goal
+
+pub returns : goal.returns
+returns c = fields.library_reaches

@@ -1,0 +1,3 @@
+pub mod TablesReadBack
+pub mod CarriedOut
+pub mod Reaching
