@@ -1,0 +1,5 @@
+//! Tests of the dynamic tables of libraries.
+#![tactic(auto)]
+
+#[cfg(test)]
+mod hashes;
