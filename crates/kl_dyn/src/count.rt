@@ -1,5 +1,6 @@
 // How many entries the loader has for a library.
-ghost use Rattle.std.specs.Prelude.{◌≡◌, ◌+◌, ◌^◌, ◌||◌, ◌≤◌, length};
+ghost use Rattle.std.specs.Prelude.{◌≡◌, ◌+◌, ◌*◌, ◌||◌, ◌≤◌, length};
+ghost use Rattle.kl_base.specs.declared.limits.TheConstants.{FIELD_COUNT_LIMIT};
 ghost use Rattle.kl_model.specs.Slots.{is_loaded, is_moving, is_name, jump_entries, rela_entries, slots, stubs};
 ghost use Rattle.kl_model.specs.Sound.{IsSoundGraph};
 ghost use Rattle.kl_model.specs.declared.kit.Kit.{Kit};
@@ -57,7 +58,7 @@ pub fn entry_counts(graph: &Graph, needs: &Needs) -> EntryCounts
     requires stubs { needs.now.stubs ≡ stubs graph.now }
     ensures relas { result.relas ≡ length (rela_entries graph.now) }
     ensures jumps { result.jumps ≡ length (jump_entries graph.now) }
-    ensures few { result.relas + result.jumps ≤ 2 ^ 24 }
+    ensures few { result.relas + result.jumps ≤ 2 * FIELD_COUNT_LIMIT }
 {
     let jumps = needs.stubs.items().len();
     let entries = count_fields(graph.fields.items()) + count_slots(needs.slots.items());

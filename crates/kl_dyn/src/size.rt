@@ -1,6 +1,6 @@
 // How large the areas are that the linker makes for a library.
 ghost use Rattle.std.specs.Prelude.{◌≡◌, ◌+◌, ◌*◌, ◌<◌, ◌≤◌, ◌^◌, false, true, length, sum_by};
-ghost use Rattle.kl_base.specs.declared.limits.TheConstants.{KIT_TEXT_LIMIT};
+ghost use Rattle.kl_base.specs.declared.limits.TheConstants.{FIELD_COUNT_LIMIT, KIT_TEXT_LIMIT, SIZE_LIMIT};
 ghost use Rattle.kl_model.specs.Fit.{IsKit};
 ghost use Rattle.kl_model.specs.Lists.{up};
 ghost use Rattle.kl_model.specs.Sizes.{bucket_count, ended_size, has_bytes, made_of, names_size, soname_size, strings_size, symbol_count, tables_of, tags};
@@ -82,7 +82,7 @@ pub fn names_size(kit: &Kit, graph: &Graph) -> u64
 fn words_size(words: &[Word]) -> u64
     requires { length words.now < KIT_TEXT_LIMIT }
     ensures size { result ≡ sum_by ended_size words.now }
-    ensures small { result ≤ 2 ^ 30 }
+    ensures small { result ≤ SIZE_LIMIT }
 {
     let mut size = 0;
     for word in words {
@@ -118,7 +118,7 @@ pub fn table_parts(kit: &Kit, graph: &Graph, counts: EntryCounts) -> Parts
     requires sound { IsSoundGraph kit.now graph.now }
     requires relas { counts.relas ≡ length (rela_entries graph.now) }
     requires jumps { counts.jumps ≡ length (jump_entries graph.now) }
-    requires few { counts.relas + counts.jumps ≤ 2 ^ 24 }
+    requires few { counts.relas + counts.jumps ≤ 2 * FIELD_COUNT_LIMIT }
     ensures parts { AreParts (tables_of kit.now graph.now) result }
     ensures small { result.stop ≤ 2 ^ 56 }
 {
