@@ -197,7 +197,7 @@ way_direct kind Zero e = direct_only (is_slot_kind kind) e
 way_direct kind Gone e = cc
 
 -- a call to a name takes a stub, and nothing else does
-way_stub : (kind : ℕ) (t : Target) → way kind t ≡ ByStub → (n : ℕ) × (t ≡ Name n) × (kind ≡ R_X86_64_PLT32)
+pub way_stub : (kind : ℕ) (t : Target) → way kind t ≡ ByStub → (n : ℕ) × (t ≡ Name n) × (kind ≡ R_X86_64_PLT32)
 way_stub kind (Place n k) e = never_stub (is_slot_kind kind) e
 way_stub kind (Abs n) e = never_stub (is_slot_kind kind) e
 way_stub kind (Edge n x) e = never_stub (is_slot_kind kind) e

@@ -18,3 +18,4 @@ pub mod StubBytes
 pub mod FieldReaches
 pub mod LibraryFields
 pub mod MadeSizes
+pub mod LawExample

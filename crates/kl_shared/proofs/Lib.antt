@@ -1,3 +1,5 @@
 pub mod GraphTexts
 pub mod LoaderFaults
 pub mod Linked
+pub mod StubArea
+pub mod StubRoom

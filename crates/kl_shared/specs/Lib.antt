@@ -1,1 +1,2 @@
 pub mod LibraryLinks
+pub mod Stubs
