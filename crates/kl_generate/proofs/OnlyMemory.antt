@@ -20,7 +20,7 @@ use Rattle.kl_model.specs.declared.object.Input.{Input}
 use Rattle.kl_model.specs.declared.place.Gaps.{Gaps}
 use Rattle.kl_model.specs.declared.place.Placement.{Placement}
 use Rattle.kl_model.proofs.Each.{all-only_if, each-all}
-use Rattle.kl_kernel.specs.RoomyLinks.{IsNoSpanOrRange}
+use Rattle.kl_steps.specs.RoomyLinks.{IsNoSpanOrRange}
 use Rattle.kl_generate.specs.Made.{AreMade, made_kit}
 use Rattle.kl_generate.proofs.MadeFaults.{none_stands}
 use Rattle.kl_generate.proofs.MadeGraphs.{roomy}

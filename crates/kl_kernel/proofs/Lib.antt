@@ -1,10 +1,3 @@
-pub mod AreaAddresses
-pub mod Sources
-pub mod LinkFaults
-pub mod LinkSteps
-pub mod OneTargets
-pub mod RoomyValues
-pub mod RoomyFields
-pub mod NameFaults
-pub mod RoomyKits
 pub mod KernelMade
+pub mod OneTargets
+pub mod KernelCarries

@@ -1,2 +1,1 @@
 pub mod OneTarget
-pub mod RoomyLinks

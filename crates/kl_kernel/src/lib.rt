@@ -5,5 +5,5 @@ mod image;
 mod laws;
 mod link;
 
-pub use laws::{one_target, roomy_links};
+pub use laws::one_target;
 pub use link::link_kernel;

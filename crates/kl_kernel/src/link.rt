@@ -8,7 +8,7 @@ ghost use Rattle.kl_model.specs.Graphs.{graph};
 ghost use Rattle.kl_model.specs.Orders.{IsOrder, drawn_count};
 ghost use Rattle.kl_model.specs.Roomy.{IsRoomy};
 ghost use Rattle.kl_model.specs.declared.kit.KitKind.TheVariants.{Kernel};
-ghost use Rattle.kl_kernel.specs.RoomyLinks.{IsNoSpanOrRange};
+ghost use Rattle.kl_steps.specs.RoomyLinks.{IsNoSpanOrRange};
 
 use crate::image::{kernel_image, made_areas};
 use kl_got::needs;

@@ -15,6 +15,7 @@ mod values;
 mod whole;
 mod window;
 
+pub use address::address_of;
 pub use head::headers;
 pub use laws::{image_carries, image_holds};
 pub use plan::{MadeBytes, Plan, fill};

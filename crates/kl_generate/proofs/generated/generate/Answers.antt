@@ -13,7 +13,7 @@ link_kit-requires c =
     let kit : c.in_ok-kit.kit ≡ made_kit c.args.count = search rules in
     let same : c.deref.result.now ≡ c.in_ok-inputs.inputs.items = search rules in
     let linkable : IsLinkable (made_kit c.args.count) c.deref.result.now =
-    record { form = is_kit c.args.count c.requires.few; kernel = refl; fit = subst AreFit (sym same) c.in_ok-inputs.ensures.fit } in
+    record { form = is_kit c.args.count c.requires.few; fit = subst AreFit (sym same) c.in_ok-inputs.ensures.fit } in
     subst (λ k. IsLinkable k c.deref.result.now) (sym kit) linkable
 
 pub want_of_memory-requires : goal.want_of_memory-requires

@@ -3,9 +3,10 @@ use Rattle.std.specs.Option.{option_copied}
 use Rattle.std.proofs.lemmas.Result.{err_from_is_err_and}
 use Rattle.kl_layout.specs.Spans.{as_link_fault}
 use Rattle.kl_write.proofs.FewSlots.{few_slots}
-use Rattle.kl_kernel.proofs.LinkFaults.{first_of_names}
-use Rattle.kl_kernel.proofs.LinkSteps.{addresses, carries_kit, few_placed, graph_order, laid_kernel, made_small, none_stands, range_is, sources, span_is}
-use Rattle.kl_kernel.proofs.RoomyKits.{roomy_err}
+use Rattle.kl_steps.proofs.LinkFaults.{first_of_names}
+use Rattle.kl_steps.proofs.LinkSteps.{addresses, few_placed, graph_order, laid_kit, none_stands, range_is, sources, span_is}
+use Rattle.kl_steps.proofs.RoomyKits.{roomy_err}
+use Rattle.kl_kernel.proofs.KernelCarries.{carries_kit, made_small}
 use Rattle.kl_kernel.proofs.link.link_kernel.Goals as goal
 
 pub returns-in_err-graph-clause-err : goal.returns-in_err-graph-clause-err
@@ -20,13 +21,13 @@ pub made_areas-made-requires : goal.made_areas-made-requires
 made_areas-made-requires c = rw (c.items.ensures, c.in_ok-needs.ensures.slots) (few_slots c.args.kit.now c.in_ok-graph.graph c.in_ok-graph.ensures.graph)
 
 pub place-requires-clause-order : goal.place-requires-clause-order
-place-requires-clause-order c = let q = c.requires in graph_order c.args.kit.now c.args.inputs.now (option_copied c.args.gaps) c.args.order.now q.kit q.kernel q.inputs q.order c.in_ok-graph.graph c.in_ok-graph.ensures.ok c.in_ok-graph.ensures.graph
+place-requires-clause-order c = let q = c.requires in graph_order c.args.kit.now c.args.inputs.now (option_copied c.args.gaps) c.args.order.now q.kit q.inputs q.order c.in_ok-graph.graph c.in_ok-graph.ensures.ok c.in_ok-graph.ensures.graph
 
 pub place-requires-clause-made : goal.place-requires-clause-made
 place-requires-clause-made c =
     let q = c.requires in
-    made_small c.args.kit.now c.args.inputs.now (option_copied c.args.gaps) c.args.order.now q.kit q.kernel q.inputs q.order c.in_ok-graph.graph c.in_ok-graph.ensures.ok c.in_ok-graph.ensures.graph
-    c.made_areas-made.result (c.made_areas-made.ensures c.args.kit.now c.in_ok-graph.graph q.kernel (c.items.ensures ∙ c.in_ok-needs.ensures.slots))
+    made_small c.args.kit.now c.in_ok-graph.graph q.kernel c.in_ok-graph.ensures.graph c.made_areas-made.result
+    (c.made_areas-made.ensures c.args.kit.now c.in_ok-graph.graph q.kernel (c.items.ensures ∙ c.in_ok-needs.ensures.slots))
 
 pub returns-in_err-placement-clause-err : goal.returns-in_err-placement-clause-err
 returns-in_err-placement-clause-err c =
@@ -34,7 +35,7 @@ returns-in_err-placement-clause-err c =
     let r = err_from_is_err_and c.from_residual-in_err-placement.result c.from_residual-in_err-placement.ensures.1 in
     rw (r.1, r.2) (elim c.in_err-placement.ensures.err [
       | inl a ↦ inl (ap as_link_fault a)
-      | inr e ↦ inr (span_is c.args.kit.now c.args.inputs.now (option_copied c.args.gaps) c.args.order.now q.kit q.kernel q.inputs q.order c.in_ok-graph.graph c.in_ok-graph.ensures.ok c.in_ok-graph.ensures.graph
+      | inr e ↦ inr (span_is c.args.kit.now c.args.inputs.now (option_copied c.args.gaps) c.args.order.now q.kit q.inputs q.order c.in_ok-graph.graph c.in_ok-graph.ensures.ok c.in_ok-graph.ensures.graph
           c.made_areas-made.result (c.made_areas-made.ensures c.args.kit.now c.in_ok-graph.graph q.kernel (c.items.ensures ∙ c.in_ok-needs.ensures.slots)) c.in_ok-graph.ensures.sound _ e)
     ])
 
@@ -42,18 +43,18 @@ pub kernel_image-requires-clause-laid : goal.kernel_image-requires-clause-laid
 kernel_image-requires-clause-laid c =
     let q = c.requires in let p = c.in_ok-placement.ensures in (
       c.args.order.now,
-      laid_kernel c.args.kit.now c.args.inputs.now (option_copied c.args.gaps) c.args.order.now q.kit q.kernel q.inputs q.order c.in_ok-graph.graph c.in_ok-graph.ensures.ok c.in_ok-graph.ensures.graph
+      laid_kit c.args.kit.now c.args.inputs.now (option_copied c.args.gaps) c.args.order.now q.kit q.inputs q.order c.in_ok-graph.graph c.in_ok-graph.ensures.ok c.in_ok-graph.ensures.graph
           c.made_areas-made.result (c.made_areas-made.ensures c.args.kit.now c.in_ok-graph.graph q.kernel (c.items.ensures ∙ c.in_ok-needs.ensures.slots)) c.in_ok-placement.placement p.laid p.names p.placed p.small,
     )
 
 pub kernel_image-requires-clause-addresses : goal.kernel_image-requires-clause-addresses
 kernel_image-requires-clause-addresses c =
     let q = c.requires in let p = c.in_ok-placement.ensures in
-    addresses c.args.kit.now c.args.inputs.now (option_copied c.args.gaps) c.args.order.now q.kit q.kernel q.inputs q.order c.in_ok-graph.graph c.in_ok-graph.ensures.ok c.in_ok-graph.ensures.graph
+    addresses c.args.kit.now c.args.inputs.now (option_copied c.args.gaps) c.args.order.now q.kit q.inputs q.order c.in_ok-graph.graph c.in_ok-graph.ensures.ok c.in_ok-graph.ensures.graph
     c.made_areas-made.result (c.made_areas-made.ensures c.args.kit.now c.in_ok-graph.graph q.kernel (c.items.ensures ∙ c.in_ok-needs.ensures.slots)) c.in_ok-placement.placement p.laid p.names p.placed p.small
 
 pub kernel_image-requires-clause-sources : goal.kernel_image-requires-clause-sources
-kernel_image-requires-clause-sources c = let q = c.requires in sources c.args.kit.now c.args.inputs.now (option_copied c.args.gaps) c.args.order.now q.kit q.kernel q.inputs q.order c.in_ok-graph.graph c.in_ok-graph.ensures.ok c.in_ok-graph.ensures.graph
+kernel_image-requires-clause-sources c = let q = c.requires in sources c.args.kit.now c.args.inputs.now (option_copied c.args.gaps) c.args.order.now q.kit q.inputs q.order c.in_ok-graph.graph c.in_ok-graph.ensures.ok c.in_ok-graph.ensures.graph
 
 pub returns-in_err-image-clause-err : goal.returns-in_err-image-clause-err
 returns-in_err-image-clause-err c =
@@ -61,44 +62,47 @@ returns-in_err-image-clause-err c =
     let r = err_from_is_err_and c.from_residual-in_err-image.result c.from_residual-in_err-image.ensures.1 in
     rw (r.1, r.2) (elim c.in_err-image.ensures.err [
       | inl a ↦ inl a
-      | inr e ↦ inr (range_is c.args.kit.now c.args.inputs.now (option_copied c.args.gaps) c.args.order.now q.kit q.kernel q.inputs q.order c.in_ok-graph.graph c.in_ok-graph.ensures.ok c.in_ok-graph.ensures.graph
+      | inr e ↦ inr (range_is c.args.kit.now c.args.inputs.now (option_copied c.args.gaps) c.args.order.now q.kit q.inputs q.order c.in_ok-graph.graph c.in_ok-graph.ensures.ok c.in_ok-graph.ensures.graph
           c.made_areas-made.result (c.made_areas-made.ensures c.args.kit.now c.in_ok-graph.graph q.kernel (c.items.ensures ∙ c.in_ok-needs.ensures.slots)) c.in_ok-placement.placement p.laid p.names p.placed p.small c.in_ok-graph.ensures.sound ∙ e)
     ])
 
 pub returns-clause-ok : goal.returns-clause-ok
 returns-clause-ok c =
     let q = c.requires in let p = c.in_ok-placement.ensures in
-    carries_kit c.args.kit.now c.args.inputs.now (option_copied c.args.gaps) c.args.order.now q.kit q.kernel q.inputs q.order c.in_ok-graph.graph c.in_ok-graph.ensures.ok c.in_ok-graph.ensures.graph
-    c.made_areas-made.result (c.made_areas-made.ensures c.args.kit.now c.in_ok-graph.graph q.kernel (c.items.ensures ∙ c.in_ok-needs.ensures.slots)) c.in_ok-placement.placement p.laid p.names p.placed p.small
-    c.in_ok-graph.ensures.sound c.in_ok-image.ensures.sound c.in_ok-image.image.items c.in_ok-image.ensures.image
+    carries_kit c.args.kit.now c.args.inputs.now (option_copied c.args.gaps) c.args.order.now q.kernel c.in_ok-graph.graph c.in_ok-graph.ensures.ok c.in_ok-placement.placement
+    (laid_kit c.args.kit.now c.args.inputs.now (option_copied c.args.gaps) c.args.order.now q.kit q.inputs q.order c.in_ok-graph.graph c.in_ok-graph.ensures.ok c.in_ok-graph.ensures.graph
+    c.made_areas-made.result (c.made_areas-made.ensures c.args.kit.now c.in_ok-graph.graph q.kernel (c.items.ensures ∙ c.in_ok-needs.ensures.slots)) c.in_ok-placement.placement p.laid p.names p.placed p.small)
+    (addresses c.args.kit.now c.args.inputs.now (option_copied c.args.gaps) c.args.order.now q.kit q.inputs q.order c.in_ok-graph.graph c.in_ok-graph.ensures.ok c.in_ok-graph.ensures.graph
+    c.made_areas-made.result (c.made_areas-made.ensures c.args.kit.now c.in_ok-graph.graph q.kernel (c.items.ensures ∙ c.in_ok-needs.ensures.slots)) c.in_ok-placement.placement p.laid p.names p.placed p.small)
+    c.in_ok-image.ensures.sound c.in_ok-image.image.items c.in_ok-image.ensures.image
 
 pub returns-clause-few : goal.returns-clause-few
 returns-clause-few c =
     let q = c.requires in let p = c.in_ok-placement.ensures in
-    few_placed c.args.kit.now c.args.inputs.now (option_copied c.args.gaps) c.args.order.now q.kit q.kernel q.inputs q.order c.in_ok-graph.graph c.in_ok-graph.ensures.ok c.in_ok-graph.ensures.graph
+    few_placed c.args.kit.now c.args.inputs.now (option_copied c.args.gaps) c.args.order.now q.kit q.inputs q.order c.in_ok-graph.graph c.in_ok-graph.ensures.ok c.in_ok-graph.ensures.graph
     c.made_areas-made.result (c.made_areas-made.ensures c.args.kit.now c.in_ok-graph.graph q.kernel (c.items.ensures ∙ c.in_ok-needs.ensures.slots)) c.in_ok-placement.placement p.laid p.names p.placed p.small
 
 pub returns-clause-sound : goal.returns-clause-sound
 returns-clause-sound c =
     let q = c.requires in let p = c.in_ok-placement.ensures in
-    none_stands c.args.kit.now c.args.inputs.now (option_copied c.args.gaps) c.args.order.now q.kit q.kernel q.inputs q.order c.in_ok-graph.graph c.in_ok-graph.ensures.ok c.in_ok-graph.ensures.graph
+    none_stands c.args.kit.now c.args.inputs.now (option_copied c.args.gaps) c.args.order.now q.kit q.inputs q.order c.in_ok-graph.graph c.in_ok-graph.ensures.ok c.in_ok-graph.ensures.graph
     c.made_areas-made.result (c.made_areas-made.ensures c.args.kit.now c.in_ok-graph.graph q.kernel (c.items.ensures ∙ c.in_ok-needs.ensures.slots)) c.in_ok-placement.placement p.laid p.names p.placed p.small
     c.in_ok-graph.ensures.sound c.in_ok-image.ensures.sound
 
 pub returns-in_err-graph-clause-roomy : goal.returns-in_err-graph-clause-roomy
 returns-in_err-graph-clause-roomy c =
     let q = c.requires in
-    roomy_err c.args.kit.now c.args.inputs.now (option_copied c.args.gaps) c.args.order.now q.kit q.kernel q.inputs q.gaps q.order _
+    roomy_err c.args.kit.now c.args.inputs.now (option_copied c.args.gaps) c.args.order.now q.kit q.inputs q.gaps q.order _
     (returns-in_err-graph-clause-err c)
 
 pub returns-in_err-placement-clause-roomy : goal.returns-in_err-placement-clause-roomy
 returns-in_err-placement-clause-roomy c =
     let q = c.requires in
-    roomy_err c.args.kit.now c.args.inputs.now (option_copied c.args.gaps) c.args.order.now q.kit q.kernel q.inputs q.gaps q.order _
+    roomy_err c.args.kit.now c.args.inputs.now (option_copied c.args.gaps) c.args.order.now q.kit q.inputs q.gaps q.order _
     (returns-in_err-placement-clause-err c)
 
 pub returns-in_err-image-clause-roomy : goal.returns-in_err-image-clause-roomy
 returns-in_err-image-clause-roomy c =
     let q = c.requires in
-    roomy_err c.args.kit.now c.args.inputs.now (option_copied c.args.gaps) c.args.order.now q.kit q.kernel q.inputs q.gaps q.order _
+    roomy_err c.args.kit.now c.args.inputs.now (option_copied c.args.gaps) c.args.order.now q.kit q.inputs q.gaps q.order _
     (returns-in_err-image-clause-err c)

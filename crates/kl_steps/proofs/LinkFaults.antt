@@ -20,7 +20,7 @@ use Rattle.kl_layout.specs.declared.fault.LayoutFault.{LayoutFault}
 use Rattle.kl_layout.specs.declared.fault.LayoutFault.TheVariants as layout
 use Rattle.kl_layout.specs.Spans.{as_link_fault, layout_fault}
 
-none_first : {X : Type 0} (xs : List X) → slice_get xs 0 ≡ None → xs ≡ []
+pub none_first : {X : Type 0} (xs : List X) → slice_get xs 0 ≡ None → xs ≡ []
 none_first [] e = refl
 none_first (x ∷ xs) e = cc
 

@@ -1,15 +1,14 @@
 -- The steps of a link: names, the layout, the image.
-use Rattle.std.proofs.Common.{◌≡◌, ◌<◌, ◌≤◌, ◌^◌, ◌∙◌, ℕ, List, [], ◌++◌, ap, length, map, length-append, subst, sym, arith}
+use Rattle.std.proofs.Common.{◌≡◌, ◌<◌, ◌≤◌, ◌^◌, ◌∙◌, ℕ, List, [], ◌++◌, ap, length, map, length-append, refl, arith}
 use Rattle.std.specs.Prelude.{Option, Some, None, slice_get}
 use Rattle.std.proofs.lemmas.List.{length-map}
-use Rattle.kl_base.specs.declared.limits.TheConstants.{SPAN_LIMIT}
-use Rattle.kl_layout.specs.Spans.{AreSmall, as_link_fault, layout_fault}
+use Rattle.kl_base.specs.declared.limits.TheConstants.{BASE_LIMIT, SPAN_LIMIT}
+use Rattle.kl_layout.specs.Spans.{as_link_fault, layout_fault}
 use Rattle.kl_layout.specs.declared.fault.LayoutFault.{LayoutFault}
-use Rattle.kl_model.specs.Carries.{Carries, CarriesGraph, NamesPieces, gap_names}
+use Rattle.kl_model.specs.Carries.{NamesPieces, gap_names}
 use Rattle.kl_model.specs.Faults.{link_fault, range_faults, resolve_fault}
 use Rattle.kl_model.specs.Fit.{AreFit, IsKit}
 use Rattle.kl_model.specs.Graphs.{graph}
-use Rattle.kl_model.specs.Image.{image_bytes}
 use Rattle.kl_model.specs.Laid.{Laid, span}
 use Rattle.kl_model.specs.Orders.{IsOrder, drawn_count}
 use Rattle.kl_model.specs.Placed.{placed}
@@ -27,12 +26,9 @@ use Rattle.kl_model.specs.declared.place.Made.{Made}
 use Rattle.kl_model.specs.declared.place.Placed.{Placed}
 use Rattle.kl_model.specs.declared.place.Placement.{Placement}
 use Rattle.kl_write.specs.LaidKits.{HasAreaAddresses, HaveSources, IsLaidKit}
-use Rattle.kl_write.proofs.LawFields.{carries_graph, no_range_faults}
-use Rattle.kl_write.proofs.FewSlots.{few_slots}
-use Rattle.kl_write.proofs.WholeOrder.{whole_order}
-use Rattle.kl_kernel.proofs.AreaAddresses.{area_addresses}
-use Rattle.kl_kernel.proofs.LinkFaults.{of_range, of_span}
-use Rattle.kl_kernel.proofs.Sources.{have_sources}
+use Rattle.kl_steps.proofs.AreaAddresses.{area_addresses}
+use Rattle.kl_steps.proofs.LinkFaults.{of_range, of_span}
+use Rattle.kl_steps.proofs.Sources.{have_sources}
 
 abbrev placed_pair : Placed → PieceId × ℕ
 placed_pair x = (x.id, x.size)
@@ -40,11 +36,15 @@ placed_pair x = (x.id, x.size)
 abbrev piece_pair : Piece → PieceId × ℕ
 piece_pair x = (x.id, x.size)
 
--- a kernel's kit is no library's
-never_both : {X : Type 0} (k : KitKind) → k ≡ Kernel → k ≡ Library → X
-never_both k e f = let no : Kernel ≡ Library = sym e ∙ f in cc
+-- the base of a kernel is an address within the limit, and that of a library 0
+pub base_small : (kit : Kit) → IsKit kit → kit.base ≤ BASE_LIMIT
+base_small kit h = by_kind kit.kind refl
+  where
+    by_kind : (k : KitKind) → kit.kind ≡ k → kit.base ≤ BASE_LIMIT
+    by_kind Kernel e = (h.kernel e).base_limit
+    by_kind Library e = let zero = h.library e in omega (arith, zero)
 
-module _ (kit : Kit) (inputs : List Input) (gaps : Option Gaps) (order : List ℕ) (is_kit : IsKit kit) (kernel : kit.kind ≡ Kernel) (fit : AreFit inputs)
+module _ (kit : Kit) (inputs : List Input) (gaps : Option Gaps) (order : List ℕ) (is_kit : IsKit kit) (fit : AreFit inputs)
     (o : IsOrder (drawn_count (map (λ x. x.place) inputs)) order) (g : Graph) (is : g ≡ graph kit inputs) (sound : IsSoundGraph kit g) where
   pub graph_order : IsOrder (drawn_count g.parts) order
   unfolding graph
@@ -53,13 +53,7 @@ module _ (kit : Kit) (inputs : List Input) (gaps : Option Gaps) (order : List �
   pub sources : HaveSources inputs g
   sources = rw is (have_sources kit inputs fit)
 
-  -- the areas that the linker makes are small
   module _ (made : Made) (made_is : made ≡ made_of kit g) where
-    pub made_small : AreSmall made
-    made_small =
-        let few = few_slots kit g sound in
-        rw (made_is, kernel) (record { stubs = omega arith; tables = omega arith; got = omega (arith, few); dynamic = omega arith })
-
     pub span_is : resolve_fault kit inputs ≡ None → (e : LayoutFault) → layout_fault (span kit g gaps order made) ≡ Some e → link_fault kit inputs gaps order ≡ Some (as_link_fault e)
     span_is no_fault e past = of_span kit inputs gaps order g is no_fault e (rw made_is at past)
 
@@ -89,10 +83,10 @@ module _ (kit : Kit) (inputs : List Input) (gaps : Option Gaps) (order : List �
         let gap_count = few_gaps gaps in
         omega arith
 
-    pub laid_kernel : IsLaidKit kit g gaps order p
-    laid_kernel = record {
-      base = (is_kit.kernel kernel).base_limit;
-      origin = λ library. never_both kit.kind kernel library;
+    pub laid_kit : IsLaidKit kit g gaps order p
+    laid_kit = record {
+      base = base_small kit is_kit;
+      origin = is_kit.library;
       sound = sound;
       whole = graph_order;
       laid = rw made_is at laid;
@@ -107,9 +101,3 @@ module _ (kit : Kit) (inputs : List Input) (gaps : Option Gaps) (order : List �
       module _ (fits : range_faults p g ≡ []) where
         pub none_stands : link_fault kit inputs gaps order ≡ None
         none_stands = range_is ∙ ap (λ fs. slice_get fs 0) fits
-
-        pub carries_kit : (img : List ℕ) → img ≡ image_bytes kit inputs g gaps p → Carries img p kit inputs gaps order
-        carries_kit img made_so =
-            let l = laid_kernel in
-            let carried = carries_graph kit inputs g gaps order p l.origin l.laid l.small l.base l.sound (whole_order g order l.whole) addresses kernel (no_range_faults p g fits) l.names in
-            subst (λ h. CarriesGraph img p kit inputs h gaps order) is (subst (λ i. CarriesGraph i p kit inputs g gaps order) (sym made_so) carried)

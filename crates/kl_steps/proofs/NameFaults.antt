@@ -24,7 +24,7 @@ use Rattle.kl_model.specs.declared.link.LinkFault.{LinkFault}
 use Rattle.kl_model.specs.declared.link.LinkFault.TheVariants as fault
 use Rattle.kl_model.specs.declared.object.Input.{Input}
 use Rattle.kl_model.specs.declared.object.RawField.{RawField}
-use Rattle.kl_kernel.specs.RoomyLinks.{IsNoSpanOrRange}
+use Rattle.kl_steps.specs.RoomyLinks.{IsNoSpanOrRange}
 
 abbrev AreOfNames : List LinkFault → Type 0
 AreOfNames fs = AllByRecursion IsNoSpanOrRange fs

@@ -1,5 +1,5 @@
 -- The fields of a roomy kit: each holds a value in the range of its type, under any order and with any gaps.
-use Rattle.std.proofs.Common.{ℕ, suc, ◌≡◌, ◌+◌, ◌*◌, ◌%◌, ◌^◌, ◌<◌, ◌≤◌, ◌⊎◌, ◌∙◌, List, [], ◌∷◌, length, get_or, refl, ap, arith, Bool, true, false, not, inl, inr}
+use Rattle.std.proofs.Common.{ℕ, suc, ◌≡◌, ◌+◌, ◌*◌, ◌%◌, ◌^◌, ◌<◌, ◌≤◌, ◌⊎◌, ◌∙◌, List, [], ◌∷◌, length, get_or, refl, ap, arith, Bool, true, false, not, inl, inr, nat_eq}
 use Rattle.std.specs.Prelude.{Option, Some, IfSome, slice_get, unwrap_or, if◌then◌else◌, ◌||◌}
 use Rattle.std.specs.Int.{cast_unsigned, w64}
 use Rattle.std.specs.List.{position_from}
@@ -11,7 +11,7 @@ use Rattle.kl_layout.proofs.RoomySpans.{roomy_span}
 use Rattle.kl_model.specs.Carries.{no_piece}
 use Rattle.kl_model.specs.Faults.{does_fit, range_faults}
 use Rattle.kl_model.specs.Laid.{area_at, no_area, place_of, span, unwrapped}
-use Rattle.kl_model.specs.Leads.{address_of, field_address, led_to, target_slot, value_target}
+use Rattle.kl_model.specs.Leads.{address_of, field_address, led_to, target_slot, target_stub, value_target}
 use Rattle.kl_model.specs.Lists.{only_if}
 use Rattle.kl_model.specs.Orders.{IsOrder, drawn_count}
 use Rattle.kl_model.specs.Placed.{placed}
@@ -19,7 +19,7 @@ use Rattle.kl_model.specs.Reaches.{less, plus, value}
 use Rattle.kl_model.specs.Relocations.{in_range, is_signed, is_slot_kind}
 use Rattle.kl_model.specs.Roomy.{CallIsNear, IsHigh, IsNear, IsRoomy, IsRoomyField, IsWide, NumberFits, SlotIsNear}
 use Rattle.kl_model.specs.Sizes.{made_of}
-use Rattle.kl_model.specs.Slots.{BySlot, Directly, same_target, slots, way}
+use Rattle.kl_model.specs.Slots.{BySlot, Directly, name_of, same_target, slots, stubs, way}
 use Rattle.kl_model.specs.Fit.{AreGaps}
 use Rattle.kl_model.specs.Sound.{IsSoundField, IsSoundGraph, IsSoundTarget}
 use Rattle.kl_model.specs.declared.graph.Field.{Field}
@@ -27,7 +27,8 @@ use Rattle.kl_model.specs.declared.graph.Graph.{Graph}
 use Rattle.kl_model.specs.declared.graph.Target.{Target}
 use Rattle.kl_model.specs.declared.graph.Target.TheVariants.{Place, Abs, Edge, Name, Zero, Gone}
 use Rattle.kl_model.specs.declared.kit.Kit.{Kit}
-use Rattle.kl_model.specs.declared.kit.KitKind.TheVariants.{Kernel}
+use Rattle.kl_model.specs.declared.kit.KitKind.TheVariants.{Kernel, Library}
+use Rattle.kl_model.specs.declared.kit.KitKind.{KitKind}
 use Rattle.kl_model.specs.declared.link.LinkFault.TheVariants as fault
 use Rattle.kl_model.specs.declared.place.AreaAt.{AreaAt}
 use Rattle.kl_model.specs.declared.place.Body.TheVariants as body
@@ -38,17 +39,22 @@ use Rattle.kl_model.proofs.Addresses.{unwrapped-mod}
 use Rattle.kl_model.proofs.Each.{each-none}
 use Rattle.kl_model.proofs.InOrder.{get_found}
 use Rattle.kl_write.proofs.SlotWords.{slot_type}
-use Rattle.kl_kernel.proofs.RoomyValues.{absolute_signed, relative_signed, slot_range}
+use Rattle.kl_steps.proofs.RoomyValues.{absolute_signed, relative_signed, slot_range}
 
--- the number of a slot is at most how many there are
-slot_number : (t : Target → Bool) (n : ℕ) (xs : List Target) → unwrap_or (position_from t n xs) 0 ≤ n + length xs
-slot_number t n [] = omega arith
-slot_number t n (x ∷ xs) = elim (cases_Bool (t x)) [
+-- the number of a slot or a stub is at most how many there are
+number_low : {X : Type 0} (t : X → Bool) (n : ℕ) (xs : List X) → unwrap_or (position_from t n xs) 0 ≤ n + length xs
+number_low t n [] = omega arith
+number_low t n (x ∷ xs) = elim (cases_Bool (t x)) [
   | inl a ↦ rw a (omega arith)
-  | inr a ↦ (let next : n + 1 ≡ suc n = omega arith in rw (a, next) (omega (arith, slot_number t (suc n) xs)))
+  | inr a ↦ (let next : n + 1 ≡ suc n = omega arith in rw (a, next) (omega (arith, number_low t (suc n) xs)))
 ]
 
-module _ (kit : Kit) (g : Graph) (gaps : Option Gaps) (order : List ℕ) (kernel : kit.kind ≡ Kernel) (limit : kit.base ≤ BASE_LIMIT)
+-- a kit with names is no kernel's
+not_kernel : {X : Type 0} (k : KitKind) (n m : ℕ) → n < m → (k ≡ Kernel → m ≡ 0) → (k ≡ Library → X) → X
+not_kernel Kernel n m few none f = let no = none refl in absurd (omega (arith, few, no))
+not_kernel Library n m few none f = f refl
+
+module _ (kit : Kit) (g : Graph) (gaps : Option Gaps) (order : List ℕ) (origin : kit.kind ≡ Library → kit.base ≡ 0) (limit : kit.base ≤ BASE_LIMIT)
     (sound : IsSoundGraph kit g) (o : IsOrder (drawn_count g.parts) order) (small_gaps : IfSome gaps AreGaps) (roomy : IsRoomy kit g) where
   abbrev made : Made
   made = made_of kit g
@@ -101,7 +107,7 @@ module _ (kit : Kit) (g : Graph) (gaps : Option Gaps) (order : List ℕ) (kernel
       let c = w.stops in
       let start : (area_at p 13).start ≡ w.start =
       ap (λ (x : AreaAt). unwrapped p x.start) area ∙ unwrapped-mod p w.start (omega (arith, limit)) a (omega (arith, b, c)) in
-      let few = slot_number (same_target t) 0 (slots g) in
+      let few = number_low (same_target t) 0 (slots g) in
       let taken = roomy.small in
       record {
         from = target_slot p g t;
@@ -109,6 +115,30 @@ module _ (kit : Kit) (g : Graph) (gaps : Option Gaps) (order : List ℕ) (kernel
         starts = omega (arith, start, a);
         stops = omega (arith, start, b, c, few, taken);
       }
+
+  -- the stubs
+  stub_led : (t : Target) → IsLed (target_stub p g t % 2 ^ 64) 0
+  stub_led t =
+      let h = each_within kit g gaps order made limit sound o small 6 (omega arith) in
+      let w = h.2 in
+      let area = area_found 6 h.0 h.1 w in
+      let a = w.starts in
+      let b = w.ordered in
+      let c = w.stops in
+      let start : (area_at p 6).start ≡ w.start =
+      ap (λ (x : AreaAt). unwrapped p x.start) area ∙ unwrapped-mod p w.start (omega (arith, limit)) a (omega (arith, b, c)) in
+      let few = number_low (nat_eq (name_of t)) 0 (stubs g) in
+      let taken = roomy.small in
+      record {
+        from = target_stub p g t;
+        is = omega arith;
+        starts = omega (arith, start, a);
+        stops = omega (arith, start, b, c, few, taken);
+      }
+
+  -- a name stands at 0 before a loader comes
+  name_led : kit.kind ≡ Library → IsLed 0 0
+  name_led library = let zero = origin library in record { from = 0; is = omega arith; starts = omega (arith, zero); stops = omega arith }
 
   module _ (f : Field) (s : IsSoundField kit g f) where
     abbrev at : ℕ
@@ -197,6 +227,15 @@ module _ (kit : Kit) (g : Graph) (gaps : Option Gaps) (order : List ℕ) (kernel
     fixed_holds t (inr (inl h)) = by_slot t h
     fixed_holds t (inr (inr h)) = directly t (number_direct (address_of p g t) h) (number_holds (address_of p g t) h)
 
+    -- a call of a name takes a stub
+    name_holds : (n : ℕ) → kit.kind ≡ Library → IsWide f ⊎ (SlotIsNear f ⊎ CallIsNear f 0) → HoldsAt (led_to p g (Name n) (way f.kind (Name n)))
+    name_holds n library (inl h) = wide_holds h _
+    name_holds n library (inr (inl h)) = let e = h.0 in rw e (slot_holds h (target_slot p g (Name n) % 2 ^ 64) (slot_led (Name n)))
+    name_holds n library (inr (inr h)) = elim h.0 [
+      | inl e ↦ rw e (near_signed 0 0 (name_led library) h.1)
+      | inr e ↦ rw e (near_signed (target_stub p g (Name n) % 2 ^ 64) 0 (stub_led (Name n)) h.1)
+    ]
+
     fits_to : (t : Target) → IsSoundTarget kit g t → IsRoomyField kit f t
         → (same_target t Gone || in_range f.kind (value f.kind (led_to p g t (way f.kind t)) f.addend (field_address p g f))) ≡ true
     fits_to (Place n k) known h = moving_holds (Place n k) k (piece_led n k known.0) h
@@ -204,7 +243,7 @@ module _ (kit : Kit) (g : Graph) (gaps : Option Gaps) (order : List ℕ) (kernel
     fits_to (Edge n true) known h = moving_holds (Edge n true) 0 (edge_led n known).1 h
     fits_to (Abs n) known h = fixed_holds (Abs n) h
     fits_to Zero known h = fixed_holds Zero h
-    fits_to (Name n) known h = let none = ap length (sound.kernel kernel) in absurd (omega (arith, known, none))
+    fits_to (Name n) known h = not_kernel kit.kind n (length g.names) known (λ e. ap length (sound.kernel e)) (λ library. name_holds n library h)
     fits_to Gone known h = refl
 
   -- no field is a fault

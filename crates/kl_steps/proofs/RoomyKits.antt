@@ -13,7 +13,6 @@ use Rattle.kl_model.specs.Sizes.{made_of}
 use Rattle.kl_model.specs.Sound.{IsSoundGraph}
 use Rattle.kl_model.specs.declared.graph.Graph.{Graph}
 use Rattle.kl_model.specs.declared.kit.Kit.{Kit}
-use Rattle.kl_model.specs.declared.kit.KitKind.TheVariants.{Kernel}
 use Rattle.kl_model.specs.declared.link.LinkFault.{LinkFault}
 use Rattle.kl_model.specs.declared.link.LinkFault.TheVariants as fault
 use Rattle.kl_model.specs.declared.object.Input.{Input}
@@ -21,20 +20,20 @@ use Rattle.kl_model.specs.declared.place.Gaps.{Gaps}
 use Rattle.kl_model.proofs.Each.{none_right}
 use Rattle.kl_sym.proofs.KitEdges.{edges_known}
 use Rattle.kl_sym.proofs.SoundFields.{graph_sound}
-use Rattle.kl_kernel.specs.RoomyLinks.{IsNoSpanOrRange, RoomyLinks}
-use Rattle.kl_kernel.proofs.LinkFaults.{span_within}
-use Rattle.kl_kernel.proofs.LinkSteps.{graph_order}
-use Rattle.kl_kernel.proofs.NameFaults.{of_names}
-use Rattle.kl_kernel.proofs.RoomyFields.{none_out_of_range, small}
+use Rattle.kl_steps.specs.RoomyLinks.{IsNoSpanOrRange, RoomyLinks}
+use Rattle.kl_steps.proofs.LinkFaults.{span_within}
+use Rattle.kl_steps.proofs.LinkSteps.{base_small, graph_order}
+use Rattle.kl_steps.proofs.NameFaults.{of_names}
+use Rattle.kl_steps.proofs.RoomyFields.{none_out_of_range, small}
 
 -- any sound graph
-pub roomy_graph : (kit : Kit) (g : Graph) (gaps : Option Gaps) (order : List ℕ) → IsKit kit → kit.kind ≡ Kernel → IsSoundGraph kit g
+pub roomy_graph : (kit : Kit) (g : Graph) (gaps : Option Gaps) (order : List ℕ) → IsKit kit → IsSoundGraph kit g
     → IsOrder (drawn_count g.parts) order → IfSome gaps AreGaps → IsRoomy kit g → graph_faults kit g gaps order ≡ []
-roomy_graph kit g gaps order is_kit kernel sound o small_gaps roomy =
-    let limit = (is_kit.kernel kernel).base_limit in
-    let within = small kit g gaps order kernel limit sound o small_gaps roomy in
+roomy_graph kit g gaps order is_kit sound o small_gaps roomy =
+    let limit = base_small kit is_kit in
+    let within = small kit g gaps order is_kit.library limit sound o small_gaps roomy in
     span_within (span kit g gaps order (made_of kit g)) (range_faults (placed kit g gaps order (made_of kit g)) g) within
-    ∙ none_out_of_range kit g gaps order kernel limit sound o small_gaps roomy
+    ∙ none_out_of_range kit g gaps order is_kit.library limit sound o small_gaps roomy
 
 -- where no fault of names stands no field has one
 no_field_faults : (kit : Kit) (inputs : List Input) → resolve_faults kit inputs ≡ [] → all_field_faults kit inputs ≡ []
@@ -46,18 +45,18 @@ no_field_faults kit inputs e =
 
 -- THE LAW
 pub roomy_links : RoomyLinks
-roomy_links kit inputs gaps order is_kit kernel fit small_gaps o none roomy =
+roomy_links kit inputs gaps order is_kit fit small_gaps o none roomy =
     let sound = graph_sound kit inputs fit (edges_known kit is_kit) (no_field_faults kit inputs none) in
-    let whole = graph_order kit inputs gaps order is_kit kernel fit o (graph kit inputs) refl sound in
-    roomy_graph kit (graph kit inputs) gaps order is_kit kernel sound whole small_gaps roomy
+    let whole = graph_order kit inputs gaps order is_kit fit o (graph kit inputs) refl sound in
+    roomy_graph kit (graph kit inputs) gaps order is_kit sound whole small_gaps roomy
 
 -- what a link answers
-module _ (kit : Kit) (inputs : List Input) (gaps : Option Gaps) (order : List ℕ) (is_kit : IsKit kit) (kernel : kit.kind ≡ Kernel)
+module _ (kit : Kit) (inputs : List Input) (gaps : Option Gaps) (order : List ℕ) (is_kit : IsKit kit)
     (fit : AreFit inputs) (small_gaps : IfSome gaps AreGaps) (o : IsOrder (drawn_count (map (λ x. x.place) inputs)) order) where
   first_is : IsRoomy kit (graph kit inputs) → (e : LinkFault) (fs : List LinkFault) → resolve_faults kit inputs ≡ fs
       → AllByRecursion IsNoSpanOrRange fs → slice_get (fs ++ graph_faults kit (graph kit inputs) gaps order) 0 ≡ Some e → IsNoSpanOrRange e
   first_is roomy e [] none all is =
-      let after = roomy_links kit inputs gaps order is_kit kernel fit small_gaps o none roomy in
+      let after = roomy_links kit inputs gaps order is_kit fit small_gaps o none roomy in
       let bad : None ≡ Some e = ap (λ (fs : List LinkFault). slice_get fs 0) (sym after) ∙ is in
       cc
   first_is roomy e (x ∷ xs) some all is =
