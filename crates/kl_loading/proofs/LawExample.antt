@@ -1,15 +1,17 @@
--- A small library that meets the premises of the law: a piece of text that leads to an imported name by its slot and by its stub, and a
--- piece of data that has the address of the text.
+-- A small library that meets the premises of the laws: a piece of text that leads to an imported name by its slot and by its stub, and
+-- has an exported name, and a piece of data that has the address of the text.
 use Rattle.std.proofs.Common.{zero, suc, ◌≡◌, ◌^◌, ◌<◌, List, [], ◌∷◌, inl, refl, arith, Bool, true, false, ◌&&◌, nat_lt}
-use Rattle.std.specs.Prelude.{All, AllPairs, None, pos, codes, ◌≢◌}
+use Rattle.std.specs.Prelude.{ℕ, All, AllPairs, None, Some, pos, codes, ◌≢◌}
 use Rattle.std.specs.List.{list_all}
 use Rattle.std.proofs.lemmas.List.Sorted.{IsPermutation-refl}
 use Rattle.kl_base.specs.declared.class.Class.TheVariants.{Text, Rwdata}
 use Rattle.kl_model.proofs.Libraries.{library}
 use Rattle.kl_model.specs.Carries.{CarriesGraph, piece_at}
+use Rattle.kl_model.specs.Found.{found}
 use Rattle.kl_model.specs.Image.{image_bytes}
 use Rattle.kl_model.specs.Kept.{no_input}
 use Rattle.kl_model.specs.Laid.{Laid}
+use Rattle.kl_model.specs.Leads.{address_of}
 use Rattle.kl_model.specs.Orders.{IsOrder, drawn_count}
 use Rattle.kl_model.specs.Placed.{placed}
 use Rattle.kl_model.specs.Sizes.{made_of}
@@ -26,7 +28,12 @@ use Rattle.kl_model.specs.declared.object.Part.TheVariants.{Head}
 use Rattle.kl_model.specs.declared.place.AreaAt.{AreaAt}
 use Rattle.kl_model.specs.declared.place.Placement.{Placement}
 use Rattle.kl_write.specs.LaidKits.{IsLaidKit}
+use Rattle.kl_write.proofs.LawFields.{library_holds}
+use Rattle.kl_write.proofs.WholeOrder.{whole_order}
+use Rattle.kl_loading.proofs.ExportsRead.{exports_are}
 use Rattle.kl_loading.proofs.LibraryFields.{library_carries}
+use Rattle.kl_loading.proofs.MadeSizes.{made_sizes}
+use Rattle.kl_loading.specs.ExportsFound.{AreExports}
 use Rattle.kl_loading.specs.Reaching.{HasOnlyLoaded}
 use Rattle.kl_loading.specs.TablesReadBack.{HasTexts, IsText}
 
@@ -48,8 +55,11 @@ by_entry = record { from = record { input = 0; section = 4; index = 0 }; piece =
 abbrev name : DynName
 name = record { input = 0; name = record { at = 0; len = 1 }; exported = None; weak = false; visibility = 0; kind = 0; size = 0 }
 
+abbrev own : DynName
+own = record { input = 0; name = record { at = 1; len = 1 }; exported = Some (Place 0 4); weak = false; visibility = 0; kind = 2; size = 0 }
+
 abbrev g : Graph
-g = record { pieces = code ∷ word ∷ []; fields = by_slot ∷ by_stub ∷ by_entry ∷ []; names = name ∷ []; entry = None; parts = Head ∷ [] }
+g = record { pieces = code ∷ word ∷ []; fields = by_slot ∷ by_stub ∷ by_entry ∷ []; names = name ∷ own ∷ []; entry = None; parts = Head ∷ [] }
 
 abbrev p : Placement
 p = placed library g None [] (made_of library g)
@@ -83,7 +93,8 @@ sound = record {
       (none (IsSoundField library g))));
   apart = apart;
   entry = tt;
-  names = one (IsSoundName library g) name [] (record { input = omega arith; short = omega arith; visibility = omega arith; kind = omega arith; size = omega arith; exported = tt }) (none (IsSoundName library g));
+  names = one (IsSoundName library g) name (own ∷ []) (record { input = omega arith; short = omega arith; visibility = omega arith; kind = omega arith; size = omega arith; exported = tt })
+      (one (IsSoundName library g) own [] (record { input = omega arith; short = omega arith; visibility = omega arith; kind = omega arith; size = omega arith; exported = (omega arith, omega arith) }) (none (IsSoundName library g)));
   kernel = λ e. cc;
   piece_count = omega arith;
   field_count = omega arith;
@@ -119,10 +130,11 @@ all_small (x ∷ xs) e =
     two false b e = cc
 
 abbrev inputs : List Input
-inputs = record no_input { bytes = codes "f" } ∷ []
+inputs = record no_input { bytes = codes "fg" } ∷ []
 
 texts : HasTexts inputs g
-texts = one (IsText inputs) name [] (record { len = refl; no_zero = one (λ c. c ≢ 0) 0x66 [] (λ e. cc) (none (λ c. c ≢ 0)) }) (none (IsText inputs))
+texts = one (IsText inputs) name (own ∷ []) (record { len = refl; no_zero = one (λ c. c ≢ 0) 0x66 [] (λ e. cc) (none (λ c. c ≢ 0)) })
+    (one (IsText inputs) own [] (record { len = refl; no_zero = one (λ c. c ≢ 0) 0x67 [] (λ e. cc) (none (λ c. c ≢ 0)) }) (none (IsText inputs)))
 
 only : HasOnlyLoaded g
 only = record {
@@ -134,6 +146,25 @@ only = record {
 is_laid : IsLaidKit library g None [] p
 is_laid = record { base = omega arith; origin = λ e. refl; sound = sound; whole = whole; laid = laid; names = refl; small = omega arith }
 
--- the law on it
+-- the laws on it
 pub example : CarriesGraph (image_bytes library inputs g None p) p library inputs g None []
 example = library_carries library inputs g None [] p refl is_laid (all_small p.areas refl) texts refl only
+
+abbrev img : List ℕ
+img = image_bytes library inputs g None p
+
+exports : AreExports img p inputs g
+exports =
+    exports_are img p library inputs g None [] refl is_laid (all_small p.areas refl)
+    (library_holds library inputs g None [] p is_laid.origin is_laid.laid is_laid.small is_laid.base is_laid.sound (whole_order g [] is_laid.whole) (all_small p.areas refl) refl
+    (made_sizes library inputs g p refl texts)) texts
+
+-- the exported name has the address of its target, the imported name and another text aren't found
+own_found : found img (codes "g") ≡ Some (address_of p g (Place 0 4))
+own_found = exports.each_text (codes "g")
+
+name_lost : found img (codes "f") ≡ None
+name_lost = exports.each_text (codes "f")
+
+other_lost : found img (codes "gg") ≡ None
+other_lost = exports.each_text (codes "gg")

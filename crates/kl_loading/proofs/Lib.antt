@@ -18,4 +18,8 @@ pub mod StubBytes
 pub mod FieldReaches
 pub mod LibraryFields
 pub mod MadeSizes
+pub mod Walked
+pub mod HashWords
+pub mod SymbolsRead
+pub mod ExportsRead
 pub mod LawExample

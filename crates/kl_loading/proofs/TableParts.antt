@@ -21,7 +21,7 @@ use Rattle.kl_loading.specs.TablesReadBack.{HasTexts}
 use Rattle.kl_loading.proofs.Rows.{length-rela, length-rows, length-sym}
 use Rattle.kl_loading.proofs.Strings.{length-strings, length-syms}
 
-length-chains : (n : ℕ) (xs : List ℕ) → length (chains_from n xs) ≡ length xs
+pub length-chains : (n : ℕ) (xs : List ℕ) → length (chains_from n xs) ≡ length xs
 length-chains n [] = refl
 length-chains n (x ∷ xs) = ap suc (length-chains (suc n) xs)
 
@@ -29,7 +29,7 @@ pub length-relas : (p : Placement) (g : Graph) (es : List Entry) → length (rel
 length-relas p g es =
     length_permutation (map (rela_of p g) es) (relas_of p g es) (in_order-permutes (λ r x. nat_lt r.offset x.offset) (map (rela_of p g) es)) ∙ length-map es (rela_of p g)
 
-length-words : (inputs : List Input) (g : Graph) → length (hash_words inputs g) ≡ 2 + (bucket_count g + suc (length g.names))
+pub length-words : (inputs : List Input) (g : Graph) → length (hash_words inputs g) ≡ 2 + (bucket_count g + suc (length g.names))
 length-words inputs g =
     let symbols = buckets_of inputs g in
     let first = map (λ b. first_in b 1 symbols) (range_with_len 0 (bucket_count g)) in

@@ -51,7 +51,7 @@ module _ (img : List ℕ) (p : Placement) (kit : Kit) (inputs : List Input) (g :
   abbrev page : ℕ
   page = page_of kit g
 
-  abbrev start : ℕ
+  abbrev pub start : ℕ
   start = (area_at p 8).start
 
   headers : segments img ≡ library_segments page p
@@ -73,7 +73,7 @@ module _ (img : List ℕ) (p : Placement) (kit : Kit) (inputs : List Input) (g :
   dynamic_held : AreaHolds img p 14 Rwdata (flat_map dyn_bytes (dynamic_of kit g p))
   dynamic_held = subst (AreaHolds img p 14 Rwdata) (ap (λ k. if is_kernel k then [] else flat_map dyn_bytes (dynamic_of kit g p)) library) holds.made.dynamic
 
-  tables_there : HasAt img start (tables_bytes kit inputs g p)
+  pub tables_there : HasAt img start (tables_bytes kit inputs g p)
   tables_there =
       area_bytes img p page (base kit inputs g gaps order p library laid numbers) ordered (front kit inputs g gaps order p library laid numbers) headers len Rodata 8 (tables_bytes kit inputs g p) refl tables_held
       (λ j l.
@@ -107,22 +107,22 @@ module _ (img : List ℕ) (p : Placement) (kit : Kit) (inputs : List Input) (g :
       ∙ (ap (dyns_from img (area_at p 14).start) count
       ∙ read_dyns img (area_at p 14).start (dynamic_of kit g p) (dynamic_small kit inputs g gaps order p library laid numbers) dynamic_there)
 
-  abbrev value : ℕ → ℕ
+  abbrev pub value : ℕ → ℕ
   value = tag_value kit g p
 
   entry_first : (t : ℕ) → not (1 == 0) && not (1 == t) ≡ true → dyn_entry img t ≡ first_with t (rows t value (tags kit g))
   entry_first t h = ap (find (λ d. d.tag == t)) dynamics_are ∙ pass_needed t (names_size g + soname_size kit) kit.needed (rows t value (tags kit g)) h
 
-  abbrev entry : ℕ → Dyn
+  abbrev pub entry : ℕ → Dyn
   entry t = record { tag = t; value = value t }
 
-  hash_entry : dyn_entry img 4 ≡ Some (entry 4)
+  pub hash_entry : dyn_entry img 4 ≡ Some (entry 4)
   hash_entry = entry_first 4 refl ∙ (behind 4 value kit g refl refl refl refl refl refl refl ∙ found 4 value kit g [] (5 ∷ 6 ∷ 10 ∷ 11 ∷ last_tags g) refl refl)
 
-  string_entry : dyn_entry img 5 ≡ Some (entry 5)
+  pub string_entry : dyn_entry img 5 ≡ Some (entry 5)
   string_entry = entry_first 5 refl ∙ (behind 5 value kit g refl refl refl refl refl refl refl ∙ found 5 value kit g (4 ∷ []) (6 ∷ 10 ∷ 11 ∷ last_tags g) refl refl)
 
-  symbol_entry : dyn_entry img 6 ≡ Some (entry 6)
+  pub symbol_entry : dyn_entry img 6 ≡ Some (entry 6)
   symbol_entry = entry_first 6 refl ∙ (behind 6 value kit g refl refl refl refl refl refl refl ∙ found 6 value kit g (4 ∷ 5 ∷ []) (10 ∷ 11 ∷ last_tags g) refl refl)
 
   size_entry : dyn_entry img 10 ≡ Some (entry 10)
@@ -132,18 +132,18 @@ module _ (img : List ℕ) (p : Placement) (kit : Kit) (inputs : List Input) (g :
   five = 4 ∷ 5 ∷ 6 ∷ 10 ∷ 11 ∷ []
 
   -- a table in rodata
-  place_is : (tag n : ℕ) (d : Dyn) → dyn_entry img tag ≡ Some d → 0 < n → start ≤ d.value → d.value + n ≤ start + (tables_of kit g).stop → table_at img tag n ≡ Some d.value
+  pub place_is : (tag n : ℕ) (d : Dyn) → dyn_entry img tag ≡ Some d → 0 < n → start ≤ d.value → d.value + n ≤ start + (tables_of kit g).stop → table_at img tag n ≡ Some d.value
   place_is tag n d e some from to =
       let w = tables_inside kit inputs g gaps order p library laid numbers 0 (has_tables kit inputs g gaps order p library laid numbers) in
       let size = tables_size kit inputs g gaps order p library laid numbers in
       ap (λ o. option_and_then (λ d. file_at img d.value n) o) e
       ∙ rodata_at img p page (base kit inputs g gaps order p library laid numbers) ordered (front kit inputs g gaps order p library laid numbers) headers len d.value n some (omega (arith, w.0, from)) (omega (arith, w.1, to, size))
 
-  parts_fit : (8 ≤ (tables_of kit g).symbols) × ((tables_of kit g).symbols + (24 * symbol_count g + strings_size kit g) ≤ (tables_of kit g).relas)
+  pub parts_fit : (8 ≤ (tables_of kit g).symbols) × ((tables_of kit g).symbols + (24 * symbol_count g + strings_size kit g) ≤ (tables_of kit g).relas)
   parts_fit = sizes_fit kit inputs g p texts
 
   -- HOW MANY SYMBOLS
-  count_is : chain_count img ≡ symbol_count g
+  pub count_is : chain_count img ≡ symbol_count g
   count_is =
       let at = place_is 4 8 (entry 4) hash_entry (omega arith) (omega arith) (omega (arith, parts_fit.0, parts_fit.1)) in
       let symbols = buckets_of inputs g in
@@ -155,10 +155,10 @@ module _ (img : List ℕ) (p : Placement) (kit : Kit) (inputs : List Input) (g :
       ap (λ o. option_map_or (λ at. num img (at + 4) 4) o 0) at ∙ has_num img (start + 4) 4 (symbol_count g) second (omega (arith, limit))
 
   -- STRINGS
-  size_is : dyn_value img 10 ≡ strings_size kit g
+  pub size_is : dyn_value img 10 ≡ strings_size kit g
   size_is = ap (λ o. option_map_or (λ d. d.value) o 0) size_entry
 
-  some_strings : 0 < strings_size kit g
+  pub some_strings : 0 < strings_size kit g
   some_strings = omega arith
 
   strings_are : strings_in img ≡ strings_of kit inputs g

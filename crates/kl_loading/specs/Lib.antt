@@ -1,3 +1,4 @@
 pub mod TablesReadBack
 pub mod CarriedOut
 pub mod Reaching
+pub mod ExportsFound

@@ -2,6 +2,7 @@
 #![tactic(auto)]
 
 ghost use Rattle.kl_loading.specs.CarriedOut.{EntriesCarriedOut};
+ghost use Rattle.kl_loading.specs.ExportsFound.{ExportsFound};
 ghost use Rattle.kl_loading.specs.Reaching.{AreasAreSized, LibraryCarries, LibraryReaches};
 ghost use Rattle.kl_loading.specs.TablesReadBack.{TablesReadBack};
 
@@ -9,6 +10,13 @@ ghost use Rattle.kl_loading.specs.TablesReadBack.{TablesReadBack};
 /// whatever the inputs, for each sound graph, order and placement that is laid out.
 pub fn tables_read_back()
     ensures { TablesReadBack }
+{}
+
+/// The hash table of a library's file gives each text, of any bytes, the value of the first exported name with that text: where no two
+/// names have the same text each exported name is found with its value, and a text that is that of no exported name isn't found (gABI,
+/// "Hash Table").
+pub fn exports_found()
+    ensures { ExportsFound }
 {}
 
 /// The memory of an image that is loaded: where no two entries share a byte, the eight bytes of each entry are its value, and all
