@@ -1,2 +1,4 @@
 pub mod Entries
+pub mod LookUp
 pub mod Parts
+pub mod Rows

@@ -158,7 +158,7 @@ fn where_some(some: bool, count: u64) -> u64
 }
 
 /// How many tags the dynamic section has behind its `DT_NEEDED` entries.
-fn tag_count(kit: &Kit, graph: &Graph, counts: EntryCounts) -> u64
+pub fn tag_count(kit: &Kit, graph: &Graph, counts: EntryCounts) -> u64
     requires relas { counts.relas ≡ length (rela_entries graph.now) }
     requires jumps { counts.jumps ≡ length (jump_entries graph.now) }
     ensures count { result ≡ length (tags kit.now graph.now) }
