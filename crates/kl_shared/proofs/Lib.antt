@@ -3,3 +3,4 @@ pub mod LoaderFaults
 pub mod Linked
 pub mod StubArea
 pub mod StubRoom
+pub mod LibraryCarries
