@@ -1,5 +1,7 @@
-//! Tests of the reader of images: the headers of a linked image, and each flaw once.
+//! Tests of the reader of images: the headers of a linked image, each flaw once, and the memory of one that is loaded.
 #![tactic(auto)]
 
+#[cfg(test)]
+mod loads;
 #[cfg(test)]
 mod views;

@@ -51,7 +51,7 @@ const LIBRARY: [u8; 360] = [
 ];
 
 /// Bytes with some of them changed.
-fn change(bytes: &mut [u8], changes: &[(usize, u8)]) {
+pub(crate) fn change(bytes: &mut [u8], changes: &[(usize, u8)]) {
     for (at, byte) in changes {
         if *at < bytes.len() {
             bytes[*at] = *byte;

@@ -9,3 +9,7 @@ pub mod EntryFlaws
 pub mod Whole
 pub mod Loads
 pub mod TableLoads
+pub mod Covering
+pub mod CoverMaps
+pub mod Texts
+pub mod WrittenBytes

@@ -5,7 +5,7 @@ use Rattle.kl_elf.specs.Records.{ehdr_at}
 use Rattle.kl_elf.specs.declared.records.Phdr.{Phdr}
 use Rattle.kl_elf.specs.declared.abi.TheConstants.{ET_DYN}
 use Rattle.kl_model.specs.Loaded.{dynamics}
-use Rattle.kl_model.proofs.Each.{head_left}
+use Rattle.kl_model.proofs.Each.{head_left, none_left, none_right}
 use Rattle.kl_image.specs.Headers.{head_flaws, segment_flaws}
 use Rattle.kl_image.specs.Dynamic.{dynamic_header, entry_flaws, table_flaws}
 use Rattle.kl_image.specs.Flaws.{IsFirst, image_flaws}
@@ -66,3 +66,8 @@ shared_right b none right shared tables = rw (none, right, shared) tables
 pub fixed_right : (b : List ℕ) → head_flaws b ≡ [] → segment_flaws b ≡ [] → ((ehdr_at b 0).kind == ET_DYN) ≡ false → image_flaws b ≡ []
 unfolding image_flaws
 fixed_right b none right fixed = rw (none, right, fixed) refl
+
+-- the program headers of an image without a flaw
+pub headers_right : (b : List ℕ) → image_flaws b ≡ [] → segment_flaws b ≡ []
+unfolding image_flaws
+headers_right b none = none_right (head_flaws b) (segment_flaws b) (none_left (head_flaws b ++ segment_flaws b) _ none)

@@ -4,3 +4,10 @@ pub mod Flaws
 pub mod Loadable
 pub mod Occupied
 pub mod Sections
+pub mod Resolvers
+pub mod Bases
+pub mod Covers
+pub mod Texts
+pub mod Symbols
+pub mod Placed
+pub mod LoadedImages

@@ -1,16 +1,22 @@
 // The dynamic section of an image, and the tables that it names.
-ghost use Rattle.std.specs.Prelude.{◌≡◌, ◌+◌, ◌*◌, ◌≤◌, ◌<◌, ◌^◌, ◌/◌, ◌==◌, [], ℕ, Some, false, find, length, option_copied, IfOk, OnOk, IfErr, IfSome};
+ghost use Rattle.std.specs.Prelude.{◌≡◌, ◌+◌, ◌*◌, ◌≤◌, ◌<◌, ◌^◌, ◌/◌, ◌==◌, ◌++◌, [], ℕ, Option, Some, false, find, fold, length, option_copied, IfOk, OnOk, IfErr, IfSome};
 ghost use Rattle.kl_elf.specs.declared.records.Phdr.{Phdr};
 ghost use Rattle.kl_elf.specs.declared.abi.TheConstants.{DT_HASH, PT_DYNAMIC};
-ghost use Rattle.kl_model.specs.Memory.{segments};
-ghost use Rattle.kl_model.specs.Loaded.{chain_count, dyn_entry, dyn_value, dyns_from, file_at, has_in_file, table_at};
+ghost use Rattle.kl_model.specs.Memory.{Cell, segments};
+ghost use Rattle.kl_model.specs.Loaded.{chain_count, dyn_entry, dyn_value, dyns_from, file_at, has_in_file, relas_in, strings_in, table_at, with_rela};
 ghost use Rattle.kl_image.specs.Headers.{has_bytes_outside, segment_flaws};
 ghost use Rattle.kl_image.specs.Dynamic.{bucket_count, dynamic_header, entry_flaws, hash_size, is_relocations, is_wrong_table, table_flaws, table_size};
 ghost use Rattle.kl_image.specs.Sections.{IsSection};
 ghost use Rattle.kl_image.specs.Flaws.{IsFirst};
+ghost use Rattle.kl_image.specs.Placed.{IsOver, IsPlaced, table_entries};
+ghost use Rattle.kl_image.specs.Resolvers.{number_of};
+ghost use Rattle.kl_image.specs.Symbols.{IsSymbols};
 
-use crate::ImageFault;
 use crate::header::E_PHOFF;
+use crate::placed::Placed;
+use crate::string::Strings;
+use crate::symbol::Symbols;
+use crate::{ImageFault, Resolver};
 use kl_base::NoMemory;
 use kl_elf::abi::{
     DT_HASH, DT_JMPREL, DT_NULL, DT_PLTRELSZ, DT_RELA, DT_RELASZ, DT_STRSZ, DT_STRTAB, DT_SYMTAB,
@@ -19,6 +25,7 @@ use kl_elf::abi::{
 use kl_elf::{Dyn, Phdr, Rela, Sym};
 use kl_le::get;
 use std::alloc::Global;
+use std::collections::BTreeMap;
 
 /// The size of a word of the hash table (gABI, "Hash Table").
 pub(crate) const HASH_WORD: usize = 4;
@@ -61,6 +68,38 @@ pub(crate) fn check_tables(alloc: Global, bytes: &[u8], headers: &[Phdr]) -> Res
     section.check_entries(alloc)?;
     if entries.len() as u64 >= header.filesz / Dyn::SIZE as u64 {
         return Err(ImageFault::Tables { at: E_PHOFF });
+    }
+    Ok(())
+}
+
+/// Carries out the relocation entries of a shared object, those of `DT_RELA`, then those of `DT_JMPREL`. Where memory runs out, what
+/// was written is of no more use.
+pub(crate) fn carry_out_entries<R: Resolver>(
+    alloc: Global,
+    headers: &[Phdr],
+    image: &Placed,
+    names: &R,
+    written: &mut BTreeMap<u64, u8>,
+) -> Result<(), NoMemory>
+    requires headers { headers.now ≡ segments image.now.bytes.now }
+    requires placed { IsPlaced image.now }
+    ensures { (m : ℕ → Option Cell) → IsOver written.old m m → OnOk result (IsOver written.new m
+        (fold (with_rela image.now.bytes.now image.now.base (number_of (R.numbers names.now))) m (table_entries image.now.bytes.now))) }
+{
+    let Some(header) = dynamic_header(headers) else {
+        return Ok(());
+    };
+    let entries = read_entries(alloc, image.bytes, header)?;
+    let section = DynamicSection {
+        bytes: image.bytes,
+        segments: headers,
+        header: *header,
+        entries: &entries,
+    };
+    let symbols = section.symbols(alloc)?;
+    let relocations = section.relocations(alloc)?;
+    for entry in &relocations {
+        image.carry_out(&symbols, names, entry, written)?;
     }
     Ok(())
 }
@@ -145,6 +184,59 @@ impl<'a> DynamicSection<'a> {
     {
         size != 0 && self.file_at(entry.value, size).is_none()
             || is_relocations(entry.tag) && size % Rela::SIZE as u64 != 0
+    }
+
+    /// The relocation entries, those of `DT_RELA`, then those of `DT_JMPREL`.
+    fn relocations(&self, alloc: Global) -> Result<Vec<Rela>, NoMemory>
+        requires { IsSection self.now }
+        ensures { IfOk result (λ v. v.items ≡ table_entries self.now.bytes.now) }
+    {
+        let mut relocations = Vec::new(alloc);
+        self.read_table(DT_RELA, DT_RELASZ, &mut relocations)?;
+        self.read_table(DT_JMPREL, DT_PLTRELSZ, &mut relocations)?;
+        Ok(relocations)
+    }
+
+    /// Adds the relocation entries of the table that these tags name.
+    fn read_table(&self, tag: u64, size: u64, relocations: &mut Vec<Rela>) -> Result<(), NoMemory>
+        requires { IsSection self.now }
+        ensures { OnOk result (relocations.new.items ≡ relocations.old.items ++ relas_in self.now.bytes.now tag size) }
+    {
+        let size = self.value(size);
+        let Some(at) = self.table_at(tag, size) else {
+            return Ok(());
+        };
+        for number in 0..size as usize / Rela::SIZE {
+            relocations.push(Rela::read(self.bytes, at + Rela::SIZE * number))?;
+        }
+        Ok(())
+    }
+
+    /// The symbols that it names.
+    fn symbols(&self, alloc: Global) -> Result<Symbols<'a>, NoMemory>
+        requires { IsSection self.now }
+        ensures symbols { IfOk result IsSymbols }
+        ensures bytes { IfOk result (λ y. y.bytes.now ≡ self.now.bytes.now) }
+    {
+        let count = self.chain_count();
+        Ok(Symbols {
+            bytes: self.bytes,
+            count,
+            table: self.table_at(DT_SYMTAB, Sym::SIZE as u64 * count),
+            strings: Strings::new(alloc, self.strings())?,
+        })
+    }
+
+    /// The strings.
+    fn strings(&self) -> &'a [u8]
+        requires { IsSection self.now }
+        ensures { result.now ≡ strings_in self.now.bytes.now }
+    {
+        let size = self.value(DT_STRSZ);
+        match self.table_at(DT_STRTAB, size) {
+            Some(at) if size != 0 => &self.bytes[at..at + size as usize],
+            _ => &[],
+        }
     }
 
     /// The size of the hash table: its two counts, its buckets and its chains.

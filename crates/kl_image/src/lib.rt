@@ -1,4 +1,4 @@
-//! Reads a finished image as a loader does: its headers, or its first flaw.
+//! Reads a finished image as a loader does: its headers, or its first flaw; and its memory once it is loaded at a base.
 #![tactic(auto)]
 
 ghost use Rattle.std.specs.Prelude.{◌≡◌, [], IfOk, IfErr, OnOk};
@@ -7,18 +7,26 @@ ghost use Rattle.kl_model.specs.Memory.{segments};
 ghost use Rattle.kl_image.specs.Flaws.{IsFirst, image_flaws};
 ghost use Rattle.kl_image.specs.Loadable.{IsLoadable};
 
+mod cover;
 mod dynamic;
 mod fault;
 mod header;
 mod image;
 mod memory;
+mod names;
+mod placed;
+mod process;
 mod segment;
+mod string;
+mod symbol;
 
 use dynamic::check_tables;
 pub use fault::ImageFault;
 use header::read_header;
-pub use image::{Phdrs, View};
+pub use image::{Loaded, Phdrs, View};
 use kl_elf::abi::ET_DYN;
+pub use names::Resolver;
+pub use process::load;
 use segment::{check_segments, read_segments};
 use std::alloc::Global;
 
