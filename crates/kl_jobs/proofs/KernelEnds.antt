@@ -11,13 +11,14 @@ use Rattle.kl_link.specs.Links.{AreLinked, report_of}
 use Rattle.kl_link.specs.declared.link.LinkedKit.{LinkedKit}
 use Rattle.kl_link.specs.declared.report.Report.{Report}
 use Rattle.kl_model.specs.declared.kit.Kit.{Kit}
-use Rattle.kl_model.specs.declared.kit.KitKind.TheVariants.{Kernel}
+use Rattle.kl_model.specs.declared.kit.KitKind.{KitKind}
+use Rattle.kl_model.specs.declared.kit.KitKind.TheVariants.{Kernel, Library}
 use Rattle.kl_model.specs.declared.object.Input.{Input}
 use Rattle.kl_batch.specs.Batches.{Plan}
 use Rattle.kl_batch.specs.declared.names.TheConstants.{KERNEL}
 use Rattle.kl_jobs.specs.Kernels.{IsKernelLink, kernel_early, kernel_late}
 use Rattle.kl_jobs.specs.Links.{IsKitOf}
-use Rattle.kl_jobs.specs.Reading.{inputs_in, kit_in, kit_order, text_refusal}
+use Rattle.kl_jobs.specs.Reading.{inputs_in, kind_refusal, kit_in, kit_order, text_refusal}
 use Rattle.kl_jobs.specs.Refusals.{EndsUnder, Refuses, RefusesJob, kit_refusal, late_refusal}
 use Rattle.kl_jobs.specs.Seeds.{IsSeed}
 use Rattle.kl_jobs.specs.Start.{kernel_refusal}
@@ -26,6 +27,11 @@ use Rattle.kl_jobs.specs.declared.cause.Cause.TheVariants.{NoMemory}
 use Rattle.kl_jobs.specs.declared.names.TheConstants.{KERNEL_KIT}
 use Rattle.kl_jobs.proofs.JobEnds.{ends_linking}
 use Rattle.kl_jobs.proofs.KernelChecks.{first, second}
+
+-- a kit that isn't refused where a kernel's is wanted is a kernel's
+pub kernel_wanted : (kind : KitKind) → kind_refusal (Some Kernel) kind ≡ None → kind ≡ Kernel
+kernel_wanted Kernel e = refl
+kernel_wanted Library e = cc
 
 -- the kernel's kit text is what refuses the job next
 abbrev kit_text_refusal : Names → Option Cause

@@ -63,15 +63,13 @@ fault_of name limit (Some bytes) = if nat_lt limit (length bytes) then Some (cau
 abbrev pub file_fault : Names → List ℕ → ℕ → Option Cause
 file_fault m name limit = fault_of name limit (get m name)
 
--- WHY A KIT OF A KIND ISN'T TAKEN, where a kernel's is wanted, or a library's, or one of either kind: it is of the other, or it is a
--- library's
+-- WHY A KIT OF A KIND ISN'T TAKEN, where a kernel's is wanted, or a library's, or one of either kind: it is of the other
 abbrev pub kind_refusal : Option KitKind → KitKind → Option Cause
-kind_refusal None Kernel = None
-kind_refusal None Library = Some NotYet
+kind_refusal None kind = None
 kind_refusal (Some Kernel) Kernel = None
 kind_refusal (Some Kernel) Library = Some (cause.Kit Kind)
 kind_refusal (Some Library) Kernel = Some (cause.Kit Kind)
-kind_refusal (Some Library) Library = Some NotYet
+kind_refusal (Some Library) Library = None
 
 -- WHY A KIT TEXT IS REFUSED: its first fault, or its kind
 abbrev pub text_cause : KitFault → Cause

@@ -43,7 +43,7 @@ pub enum Cause {
     },
     /// The kit doesn't link.
     Link(LinkFault),
-    /// The kit text or an input is of a form that isn't linked yet.
+    /// An input is of a form that isn't linked yet: an archive.
     NotYet,
     /// In a recovery: the entry of that number of the slot's intent, counted from 0, isn't sound. The digests are those of what its target
     /// and its temporary hold, None where they are absent.

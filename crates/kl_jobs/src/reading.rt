@@ -28,12 +28,11 @@ use kl_rel::{LimitError, read_object_within};
 use kl_store::Store;
 use std::alloc::Global;
 
-/// The kernel's kit that a folder's text says, where a kernel's is wanted or one of either kind.
+/// The kit that a folder's text says, where one of a kind is wanted or one of either.
 ///
 /// # Errors
 ///
-/// `Kit` where there is no text, or it is too long, or with its first fault, or where it isn't of the kind that is wanted; `NotYet` where it
-/// is a library's.
+/// `Kit` where there is no text, or it is too long, or with its first fault, or where it isn't of the kind that is wanted.
 pub fn read_text<S: Store>(
     alloc: Global,
     dir: &Name,
@@ -44,8 +43,8 @@ pub fn read_text<S: Store>(
     ensures reads { IfOk result (λ kit. ForSome (S.meaning store.old).names (λ m. kit ≡ kit_in m dir.now)) }
     ensures stands { OnOk result (ForSome (S.meaning store.old).names (λ m. text_refusal wanted m dir.now ≡ None)) }
     ensures form { IfOk result IsKit }
-    ensures kernel { IfOk result (λ kit. kit.kind ≡ Kernel) }
-    ensures output { IfOk result (λ kit. kit.output ≡ KERNEL) }
+    ensures kind { IfOk result (λ kit. kind_refusal wanted kit.kind ≡ None) }
+    ensures output { IfOk result (λ kit. kit.kind ≡ Kernel → kit.output ≡ KERNEL) }
     ensures inputs { IfOk result (λ kit. AllByRecursion HasFile kit.inputs) }
     ensures refused { IfErr result (Refuses (S.meaning store.old) (λ m. text_refusal wanted m dir.now)) }
     ensures refusal { IfErr result IsRefusal }
@@ -65,15 +64,16 @@ pub fn read_text<S: Store>(
     }
 }
 
-/// Why a kit of this kind isn't taken where one of a kind is wanted, or one of either: it is of the other, or a library's.
+/// Why a kit of this kind isn't taken where one of a kind is wanted, or one of either: it is of the other.
 fn kind_refusal(wanted: Option<KitKind>, kind: KitKind) -> Option<Cause>
     ensures kind { result ≡ kind_refusal wanted kind }
     ensures refusal { IfSome result IsRefusal }
     ensures no_store { IfSome result (λ c. c ≢ Cause.Store) }
 {
     match (wanted, kind) {
-        (None | Some(KitKind::Kernel), KitKind::Kernel) => None,
-        (None | Some(KitKind::Library), KitKind::Library) => Some(Cause::NotYet),
+        (None, _)
+        | (Some(KitKind::Kernel), KitKind::Kernel)
+        | (Some(KitKind::Library), KitKind::Library) => None,
         _ => Some(Cause::Kit(KitCause::Kind)),
     }
 }

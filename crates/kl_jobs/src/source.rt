@@ -9,7 +9,7 @@ ghost use Rattle.kl_model.specs.declared.kit.KitKind.TheVariants.{Kernel};
 ghost use Rattle.kl_kit.specs.Forms.{HasFile};
 ghost use Rattle.kl_link.specs.Links.{AreLinked, IsLinkable, report_of};
 ghost use Rattle.kl_batch.specs.declared.names.TheConstants.{KERNEL};
-ghost use Rattle.kl_jobs.specs.Reading.{inputs_in, kit_order as lines_in_kit_order, lines_refusal, text_refusal};
+ghost use Rattle.kl_jobs.specs.Reading.{inputs_in, kind_refusal, kit_order as lines_in_kit_order, lines_refusal, text_refusal};
 ghost use Rattle.kl_jobs.specs.Refusals.{IsJobRefusal, IsRefusal, Refuses, RefusesJob, kit_refusal, late_refusal};
 ghost use Rattle.kl_jobs.specs.Seeds.{Draws, IsSeed, NoneDrawn};
 ghost use Rattle.kl_jobs.specs.Links.{IsKitOf};
@@ -61,7 +61,6 @@ fn read_lines<S: Store>(
 ) -> Result<Vec<Input>, Cause>
     requires dir { length dir.now ≤ FILE_LIMIT }
     requires form { IsKit kit.now }
-    requires kernel { kit.now.kind ≡ Kernel }
     requires inputs { AllByRecursion HasFile kit.now.inputs }
     ensures reads { IfOk result (λ v. ForSome (S.meaning store.old).names (λ m. v.items ≡ inputs_in m dir.now (lines_in_kit_order kit.now.inputs))) }
     ensures stands { OnOk result (ForSome (S.meaning store.old).names (λ m. lines_refusal m dir.now [] (lines_in_kit_order kit.now.inputs) ≡ None)) }
@@ -91,7 +90,8 @@ pub fn read_source<S: Store, E: Entropy>(
     ensures reads { IfOk result (λ s. ForSome (S.meaning store.old).names (λ m. IsKitOf wanted m dir.now s.kit s.inputs.items)) }
     ensures seed { IfOk result (λ s. IsSeed seed (E.meaning entropy.old) (E.meaning entropy.new) s.seed) }
     ensures linkable { IfOk result (λ s. IsLinkable s.kit s.inputs.items) }
-    ensures output { IfOk result (λ s. s.kit.output ≡ KERNEL) }
+    ensures kind { IfOk result (λ s. kind_refusal wanted s.kit.kind ≡ None) }
+    ensures output { IfOk result (λ s. s.kit.kind ≡ Kernel → s.kit.output ≡ KERNEL) }
     ensures refused { IfErr result (RefusesJob seed (E.meaning entropy.old) (E.meaning entropy.new) (S.meaning store.old)
         (λ m. text_refusal wanted m dir.now) (λ m. late_refusal m dir.now)) }
     ensures refusal { IfErr result IsJobRefusal }

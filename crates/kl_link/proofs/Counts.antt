@@ -1,6 +1,6 @@
 -- How many pieces a placement with gaps names.
 use Rattle.std.proofs.Common.{◌≡◌, ◌+◌, ◌++◌, ℕ, List, length, map, ap, refl, arith, length-append}
-use Rattle.std.specs.Prelude.{Some}
+use Rattle.std.specs.Prelude.{Option}
 use Rattle.std.proofs.lemmas.List.{length-map}
 use Rattle.kl_model.specs.Carries.{NamesPieces, gap_names}
 use Rattle.kl_model.specs.declared.graph.Graph.{Graph}
@@ -17,13 +17,13 @@ placed_pair x = (x.id, x.size)
 abbrev piece_pair : Piece → PieceId × ℕ
 piece_pair x = (x.id, x.size)
 
--- those of the graph, and four gaps
-pub placed-count : (p : Placement) (g : Graph) (z : Gaps) → NamesPieces p g (Some z) → length p.pieces ≡ length g.pieces + 4
+-- those of the graph, and the gaps
+pub placed-count : (p : Placement) (g : Graph) (z : Option Gaps) → NamesPieces p g z → length p.pieces ≡ length g.pieces + length (gap_names z)
 placed-count p g z names =
-    let named : length (map placed_pair p.pieces) ≡ length (map piece_pair g.pieces ++ gap_names (Some z)) = ap length names in
+    let named : length (map placed_pair p.pieces) ≡ length (map piece_pair g.pieces ++ gap_names z) = ap length names in
     let placed : length (map placed_pair p.pieces) ≡ length p.pieces = length-map p.pieces placed_pair in
     let pieces : length (map piece_pair g.pieces) ≡ length g.pieces = length-map g.pieces piece_pair in
-    let both = length-append (map piece_pair g.pieces) (gap_names (Some z)) in
+    let both = length-append (map piece_pair g.pieces) (gap_names z) in
     omega arith
 
 -- what is told of an image, by equal numbers

@@ -6,7 +6,6 @@ use Rattle.kl_model.specs.Faults.{link_fault}
 use Rattle.kl_model.specs.Fit.{AreFit, IsKit}
 use Rattle.kl_model.specs.Graphs.{graph}
 use Rattle.kl_model.specs.declared.kit.Kit.{Kit}
-use Rattle.kl_model.specs.declared.kit.KitKind.TheVariants.{Kernel}
 use Rattle.kl_model.specs.declared.link.LinkFault.{LinkFault}
 use Rattle.kl_model.specs.declared.object.Input.{Input}
 use Rattle.kl_model.specs.declared.place.Placement.{Placement}
@@ -14,10 +13,9 @@ use Rattle.kl_map.specs.MapText.{map_text}
 use Rattle.kl_link.specs.Plans.{gaps_of, order_of}
 use Rattle.kl_link.specs.declared.report.Report.{Report}
 
--- a kernel's kit and inputs that can be linked
+-- a kit and inputs that can be linked
 pub record IsLinkable (kit : Kit) (inputs : List Input) : Type 0 where
   pub form : IsKit kit
-  pub kernel : kit.kind ≡ Kernel
   pub fit : AreFit inputs
 
 -- THE FAULT of a kit under a seed: the first that stands

@@ -12,7 +12,7 @@ use kl_base::{INPUT_LIMIT, KIT_TEXT_LIMIT, Name, NoMemory};
 use kl_explain::{Shown, tell_flaw, tell_kit_text};
 use kl_intent::Entry;
 use kl_jobs::{Cause, KERNEL_KIT, KitCause, ObjectCause};
-use kl_model::{KitInput, KitKind};
+use kl_model::KitInput;
 use kl_rel::ReadFault;
 use kl_store::Store;
 use std::alloc::Global;
@@ -345,14 +345,7 @@ fn tell_not_yet(text: &mut String, again: &Again) -> Result<(), NoMemory> {
         return Ok(());
     }
     let name = Shown(again.text.name.bytes());
-    write!(text, "{name}: ")?;
-    match &again.text.kit {
-        Some(kit) if kit.kind == KitKind::Library => write!(
-            text,
-            "libraries aren't linked yet, and this is a library's kit ('kind library')"
-        )?,
-        _ => write!(text, "the kit is of a form that isn't linked yet")?,
-    }
+    write!(text, "{name}: the kit is of a form that isn't linked yet")?;
     Ok(())
 }
 

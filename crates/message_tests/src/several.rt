@@ -150,14 +150,5 @@ fn names_what_is_not_linked_yet(rt: HostRuntime) -> Result<(), Fail> {
         told(alloc, &Cause::NotYet, &mut store)?.as_str(),
         "relink: /kit/d.o: an archive isn't linked yet: 'ar x' takes its objects out\n"
     );
-    let mut store = kit_store(
-        alloc,
-        b"kind library\noutput /usr/lib/libk.so.1\nobject k.o\n",
-        &object(alloc)?,
-    )?;
-    assert_eq!(rt;
-        told(alloc, &Cause::NotYet, &mut store)?.as_str(),
-        "relink: /kit/link.conf: libraries aren't linked yet, and this is a library's kit ('kind library')\n"
-    );
     Ok(())
 }

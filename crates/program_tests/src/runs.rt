@@ -355,16 +355,34 @@ fn tells_faults_of_a_kit_text(rt: HostRuntime) -> Result<(), Fail> {
     Ok(())
 }
 
+/// Whether an image is a shared object whose text begins a page behind its start with that of `OBJECT`.
+fn is_library(image: &[u8]) -> bool {
+    let shared_object: &[u8] = &[3, 0, 62, 0];
+    let text: &[u8] = b"\xf4\xeb\xfd\xcc";
+    image.len() > 4100 && &image[16..20] == shared_object && &image[4096..4100] == text
+}
+
+/// A call of an exported name takes a stub, a slot and an entry `JUMP_SLOT`.
 #[test]
-fn refuses_libraries_and_archives(rt: HostRuntime) -> Result<(), Fail> {
+fn links_a_library(rt: HostRuntime) -> Result<(), Fail> {
+    let alloc = rt.alloc();
+    let text = b"kind library\noutput /usr/lib/libk.so.1\nsoname libk.so.1\nhead k.o\nobject c.o\n";
+    let call = hex::decode(alloc, CALL)?;
+    let mut store = two_store(alloc, text, &object(alloc)?, b"/kit/c.o", &call)?;
+    let (exit, out) = answer(alloc, &[b"link", b"/kit"], &mut store)?;
+    assert_eq!(rt; (exit.status, exit.cause), (0, Cause::Done));
+    let line: &[u8] = b"/kit linked pieces 2 fields 1 bytes ";
+    assert!(rt; out.bytes().starts_with(line));
+    let image = store.get(&named(b"/kit/linked.relink")?).ok_or("an image")?;
+    assert!(rt; is_library(image));
+    Ok(())
+}
+
+#[test]
+fn refuses_archives(rt: HostRuntime) -> Result<(), Fail> {
     let alloc = rt.alloc();
     let good = object(alloc)?;
-    let library = b"kind library\noutput /usr/lib/libk.so.1\nobject absent.o\n";
-    let mut store = kit_store(alloc, library, &good)?;
-    let (exit, out) = answer(alloc, &[b"link", b"/kit"], &mut store)?;
-    assert_eq!(rt; (exit.status, exit.cause), (19, Cause::NotYet));
-    assert_eq!(rt; out.bytes(), b"".as_slice());
-    // an archive, and a thin one
+    // with members, and a thin one
     let archives: [&[u8]; 2] = [b"!<arch>\n", b"!<thin>\n"];
     for archive in archives {
         let text = b"kind kernel\noutput /bsd\nentry start\nhead k.o\nobject l.a\n";

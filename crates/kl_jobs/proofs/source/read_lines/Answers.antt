@@ -17,6 +17,5 @@ read_inputs-requires-clause-names g c =
 pub returns-clause-linkable : goal.returns-clause-linkable
 returns-clause-linkable g c = record {
   form = c.requires.form;
-  kernel = c.requires.kernel;
   fit = are_fit c.in_ok-inputs.inputs.items c.args.kit.now.inputs c.in_ok-inputs.ensures.fit c.in_ok-inputs.ensures.within (rw (c.deref.ensures.value, c.in_ok-lines.ensures, c.items.ensures) at c.in_ok-inputs.ensures.places);
 }
