@@ -149,6 +149,25 @@ def archive(relink, root, path):
     resolved(f"{len(names)} members of {os.path.basename(path)}, {size:,} bytes, read and resolved", relink, folder, ["missing.o", *names])
 
 
+def library(relink, root, path):
+    """The members of an archive, linked as a shared object with its map."""
+    folder = new_folder(root, "library")
+    kit = os.path.join(folder, "kit")
+    subprocess.run(["ar", "x", path], cwd=kit, check=True)
+    names = sorted(os.listdir(kit))
+    size = sum(os.path.getsize(os.path.join(kit, name)) for name in names)
+    soname = os.path.basename(path).replace(".a", ".so")
+    lines = ["kind library", f"output /usr/lib/{soname}", f"soname {soname}"] + [f"object {name}" for name in names]
+    write(folder, "link.conf", "".join(line + "\n" for line in lines).encode())
+    write(folder, "files", "".join(f"kit/{name}\n" for name in names).encode())
+    options = ["-shared", f"-soname={soname}", "--hash-style=sysv", "-z", "now", "-Map=map"]
+    compare(
+        f"{len(names)} members of {os.path.basename(path)}, {size:,} bytes, linked as a shared object with a map",
+        [("relink link", [relink, "link", "/kit"], (LINKED,))] + [(name.split()[0], words, wanted) for name, words, wanted in peers(options)],
+        folder,
+    )
+
+
 def hostile(relink, root):
     cases = (
         ("a name of 30 MB and the end of it, with 1,000 fields to them", objects.long_names, (30 * 10**6, 1000), LINKED),
@@ -165,7 +184,7 @@ def hostile(relink, root):
 
 def main():
     relink, root = sys.argv[1:3]
-    chosen = sys.argv[3:] or ["linked", "many", "archive", "hostile"]
+    chosen = sys.argv[3:] or ["linked", "many", "archive", "library", "hostile"]
     os.sched_setaffinity(0, {max(os.sched_getaffinity(0))})
     if "linked" in chosen:
         linked(relink, root, 5000)
@@ -173,6 +192,8 @@ def main():
         many(relink, root)
     if "archive" in chosen:
         archive(relink, root, "/usr/lib/x86_64-linux-gnu/libcrypto.a")
+    if "library" in chosen:
+        library(relink, root, "/usr/lib/x86_64-linux-gnu/libcrypto.a")
     if "hostile" in chosen:
         hostile(relink, root)
 
