@@ -1,6 +1,6 @@
 // Reading a text in tests.
 use kl_base::KIT_TEXT_LIMIT;
-use kl_kit::{KitError, KitFault, read_kit};
+use kl_kit::{Index, KitError, KitFault, read_index, read_kit};
 use kl_model::Kit;
 use std::alloc::Global;
 use std::test::Fail;
@@ -22,6 +22,29 @@ pub(crate) fn fault(alloc: Global, text: &[u8]) -> Result<KitFault, Fail> {
         return Err("a text past the limit".into());
     }
     match read_kit(alloc, text) {
+        Ok(_) => Err("a fault".into()),
+        Err(KitError::Fault(fault)) => Ok(fault),
+        Err(KitError::NoMemory) => Err("memory".into()),
+    }
+}
+
+/// The index of a text that has one.
+pub(crate) fn index(alloc: Global, text: &[u8]) -> Result<Index, Fail> {
+    if text.len() as u64 > KIT_TEXT_LIMIT {
+        return Err("a text past the limit".into());
+    }
+    match read_index(alloc, text) {
+        Ok(index) => Ok(index),
+        Err(_) => Err("an index".into()),
+    }
+}
+
+/// The first fault of an index that has one.
+pub(crate) fn index_fault(alloc: Global, text: &[u8]) -> Result<KitFault, Fail> {
+    if text.len() as u64 > KIT_TEXT_LIMIT {
+        return Err("a text past the limit".into());
+    }
+    match read_index(alloc, text) {
         Ok(_) => Err("a fault".into()),
         Err(KitError::Fault(fault)) => Ok(fault),
         Err(KitError::NoMemory) => Err("memory".into()),

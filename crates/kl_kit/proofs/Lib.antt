@@ -4,6 +4,7 @@ mod FormedStatements
 mod InputFiles
 mod KernelKits
 mod KitStatements
+mod LibraryLines
 mod LineFaults
 mod Numbers
 mod PrintedFaults
@@ -11,10 +12,12 @@ mod PrintedKeys
 mod PrintedKits
 mod PrintedRows
 mod PrintedStatements
+mod ReadIndexes
 mod ReadKits
 mod Reading
 mod Rows
 mod Said
+mod SaidIndexes
 mod SeenKeys
 mod SoundLines
 mod Words

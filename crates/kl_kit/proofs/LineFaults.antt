@@ -29,7 +29,7 @@ use Rattle.kl_kit.specs.declared.statement.Statement.{Statement}
 use Rattle.kl_kit.specs.declared.statement.Statement.TheVariants as says
 use Rattle.kl_kit.proofs.Said.{also-parts}
 
-none_first : {X : Type 0} (xs : List X) → None ≡ slice_get xs 0 → xs ≡ []
+pub none_first : {X : Type 0} (xs : List X) → None ≡ slice_get xs 0 → xs ≡ []
 none_first [] e = refl
 none_first (x ∷ xs) e = cc
 

@@ -1,6 +1,6 @@
 -- A kit that was read can be linked: its lists are short, and its lines ascend.
-use Rattle.std.proofs.Common.{ℕ, suc, ◌≡◌, ◌+◌, ◌<◌, ◌≤◌, ◌∙◌, List, [], ◌∷◌, ◌++◌, length, refl, sym, subst, ap, arith, Bool, true, false, inl, inr, ◌⊎◌}
-use Rattle.std.specs.Prelude.{⊤, Option, Some, None, Result, Ok, Err, All, AllPairs, IfOk, OnOk, ◌==◌, ◌^◌, filter_map, is_none, is_some, option_to_list, unwrap_or}
+use Rattle.std.proofs.Common.{ℕ, suc, ◌≡◌, ◌+◌, ◌<◌, ◌≤◌, ◌∙◌, List, [], ◌∷◌, ◌++◌, length, refl, sym, subst, ap, arith, Bool, false, inl, inr}
+use Rattle.std.specs.Prelude.{Option, Some, None, Result, Ok, Err, All, AllPairs, IfOk, OnOk, ◌==◌, filter_map, is_none, option_to_list}
 use Rattle.std.specs.Option.{option_and_then, option_map}
 use Rattle.std.specs.List.{AllByRecursion, cons_option}
 use Rattle.std.proofs.lemmas.Bool.{cases_Bool}
@@ -9,13 +9,12 @@ use Rattle.std.proofs.lemmas.List.Kept.{AllPairs-cons}
 use Rattle.kl_base.specs.declared.class.Class.{Class}
 use Rattle.kl_base.specs.declared.limits.TheConstants.{KIT_TEXT_LIMIT}
 use Rattle.kl_text.specs.Lines.{lines, put_byte, words}
-use Rattle.kl_model.specs.Areas.{may_have_edge}
-use Rattle.kl_model.specs.Fit.{IsKernelKit, IsKit}
+use Rattle.kl_model.specs.Fit.{IsKit}
 use Rattle.kl_model.specs.Lists.{each_from}
 use Rattle.kl_model.specs.declared.kit.EdgeLine.{EdgeLine}
 use Rattle.kl_model.specs.declared.kit.Kit.{Kit}
 use Rattle.kl_model.specs.declared.kit.KitKind.{KitKind}
-use Rattle.kl_model.specs.declared.kit.KitKind.TheVariants.{Kernel, Library}
+use Rattle.kl_model.specs.declared.kit.KitKind.TheVariants.{Library}
 use Rattle.kl_model.specs.declared.kit.Run.{Run}
 use Rattle.kl_kit.specs.Forms.{area_of, class_of, end_of, word_of}
 use Rattle.kl_kit.specs.Keywords.{keyword_of}

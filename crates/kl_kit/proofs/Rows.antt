@@ -2,6 +2,7 @@
 use Rattle.std.specs.Prelude.{false, ◌≡◌, [], ◌∷◌, Some, None, refl, codes, slice_get}
 use Rattle.kl_model.specs.declared.object.Part.TheVariants.{Head, Drawn}
 use Rattle.kl_model.specs.declared.kit.KitKind.TheVariants.{Kernel}
+use Rattle.kl_kit.specs.IndexTexts.{index_faults, index_of}
 use Rattle.kl_kit.specs.Keywords.{keyword_of}
 use Rattle.kl_kit.specs.KitTexts.{kit_faults, kit_of}
 use Rattle.kl_kit.specs.declared.fault.KitFault.TheVariants as fault
@@ -40,3 +41,23 @@ small_kit_is : kit_of (codes "kind kernel\noutput /bsd\nentry start\nhead locore
 }
 unfolding kit_of keyword_of
 small_kit_is = refl
+
+one_output : slice_get (index_faults (codes "library /usr/share/relink/a /usr/lib/a.so\nlibrary /usr/share/relink/b /usr/lib/a.so\n")) 0 ≡ Some (fault.Twice 2)
+unfolding index_faults
+one_output = refl
+
+kept_output : slice_get (index_faults (codes "library /usr/share/relink/a /usr/lib/linked\n")) 0 ≡ Some (fault.Reserved 1)
+unfolding index_faults
+kept_output = refl
+
+comments_alone : slice_get (index_faults (codes "# none\n\n# yet")) 0 ≡ Some (fault.Missing needed.Library)
+unfolding index_faults
+comments_alone = refl
+
+small_index : index_faults (codes "# one\nlibrary /usr/share/relink/a /usr/lib/a.so") ≡ []
+unfolding index_faults
+small_index = refl
+
+small_index_is : index_of (codes "# one\nlibrary /usr/share/relink/a /usr/lib/a.so") ≡ record { dir = codes "/usr/share/relink/a"; output = codes "/usr/lib/a.so"; line = 2 } ∷ []
+unfolding index_of
+small_index_is = refl

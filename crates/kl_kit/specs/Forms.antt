@@ -43,6 +43,14 @@ file_of word = word_if (is_file word) word
 abbrev pub name_of : List ℕ → Option (List ℕ)
 name_of word = word_if (is_none (name_fault word)) word
 
+-- bytes up to the limit that begin as the names below the folder of all kits do
+abbrev pub is_below_kits : List ℕ → Bool
+is_below_kits word = nat_le (length word) FILE_LIMIT && starts_with nat_eq word (codes "/usr/share/relink/")
+
+-- a DIR: a name of that form
+abbrev pub dir_of : List ℕ → Option (List ℕ)
+dir_of word = if is_below_kits word then name_of word else None
+
 abbrev pub kind_of : List ℕ → Option KitKind
 kind_of word =
     if bytes_eq word (codes "kernel") then Some Kernel

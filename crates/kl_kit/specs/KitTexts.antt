@@ -1,10 +1,9 @@
 -- The text of a kit: the faults that stand in it, and the kit that it is.
-use Rattle.std.specs.Prelude.{ℕ, ◌-◌, Bool, true, false, not, ◌&&◌, ◌==◌, nat_le, if◌then◌else◌, List, [], ◌∷◌, ◌++◌, flat_map, filter_map, length, take, map, is_some, is_none, unwrap_or, Option, Some, None}
+use Rattle.std.specs.Prelude.{ℕ, Bool, true, false, not, ◌&&◌, ◌==◌, nat_le, if◌then◌else◌, List, [], ◌∷◌, ◌++◌, flat_map, filter_map, length, map, is_some, is_none, unwrap_or, Option, Some, None}
 use Rattle.std.specs.Option.{option_map_or}
-use Rattle.std.specs.List.{list_all}
 use Rattle.kl_base.specs.declared.limits.TheConstants.{INPUT_COUNT_LIMIT, KERNEL_BASE}
-use Rattle.kl_text.specs.Lines.{lines, words}
-use Rattle.kl_model.specs.Lists.{each_from, only_if}
+use Rattle.kl_text.specs.Lines.{lines}
+use Rattle.kl_model.specs.Lists.{only_if}
 use Rattle.kl_model.specs.Kits.{is_empty, is_kernel}
 use Rattle.kl_model.specs.declared.kit.KitKind.{KitKind}
 use Rattle.kl_model.specs.declared.kit.KitKind.TheVariants.{Kernel, Library}
@@ -14,8 +13,9 @@ use Rattle.kl_model.specs.declared.kit.EdgeLine.{EdgeLine}
 use Rattle.kl_model.specs.declared.kit.Kit.{Kit}
 use Rattle.kl_kit.specs.Forms.{is_kernel_output, is_reserved}
 use Rattle.kl_kit.specs.Keywords.{has_lines, keyword_of, word_count}
-use Rattle.kl_kit.specs.KitLines.{KitLine, is_text_byte, line_of, said, statement_of, statements}
+use Rattle.kl_kit.specs.KitLines.{KitLine, said, statement_of, statements}
 use Rattle.kl_kit.specs.Keys.{comes_again, keys_of, line_keys}
+use Rattle.kl_kit.specs.TextFaults.{bytes_faults, text_faults}
 use Rattle.kl_kit.specs.declared.keyword.Keyword.{Keyword}
 use Rattle.kl_kit.specs.declared.keyword.Keyword.TheVariants as keyword
 use Rattle.kl_kit.specs.declared.statement.Statement.{Statement}
@@ -179,15 +179,15 @@ said_faults before l =
 
 -- the faults of the line of a number with these bytes, behind lines that say something
 abbrev pub line_faults : List KitLine → ℕ → List ℕ → List KitFault
-line_faults before number bytes =
-    only_if (not (list_all is_text_byte bytes)) (fault.Byte number)
-    ++ option_map_or (said_faults before) (line_of number (words bytes)) []
+line_faults before number bytes = bytes_faults said_faults before number bytes
+
+-- what is missing behind lines, as faults
+abbrev pub missing_faults : List KitLine → List KitFault
+missing_faults ls = map fault.Missing (missing (statements ls))
 
 -- ALL FAULTS THAT STAND IN A KIT TEXT: those of its lines, then what is missing. The first is told.
 unfoldable pub kit_faults : List ℕ → List KitFault
-kit_faults text =
-    let ls = lines text in
-    each_from 1 (λ n l. line_faults (said (take (n - 1) ls)) n l) ls ++ map fault.Missing (missing (statements (said ls)))
+kit_faults text = text_faults said_faults missing_faults text
 
 -- THE KIT OF A TEXT in which no fault stands
 unfoldable pub kit_of : List ℕ → Kit

@@ -1,4 +1,6 @@
 pub mod Forms
+pub mod IndexTexts
+pub mod Indexes
 pub mod Keys
 pub mod Keywords
 pub mod KitLines
@@ -6,3 +8,4 @@ pub mod KitPrints
 pub mod KitTexts
 pub mod ReadableKits
 pub mod Readers
+pub mod TextFaults

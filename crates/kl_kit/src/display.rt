@@ -1,5 +1,6 @@
 // The words of faults.
 use crate::fault::{KitFault, Needed};
+use crate::index::LIBRARY_LIMIT;
 use kl_base::INPUT_COUNT_LIMIT;
 use std::fmt;
 
@@ -38,7 +39,10 @@ impl fmt::Display for KitFault {
                 write!(f, "line {line}: this comes again, and may come once")
             }
             KitFault::Limit { line } => {
-                write!(f, "line {line}: more than {INPUT_COUNT_LIMIT} inputs")
+                write!(
+                    f,
+                    "line {line}: more than {INPUT_COUNT_LIMIT} inputs of a kit, or {LIBRARY_LIMIT} libraries"
+                )
             }
             KitFault::Missing { what } => write!(f, "no line {what}"),
         }

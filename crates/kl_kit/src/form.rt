@@ -3,7 +3,7 @@ ghost use Rattle.std.specs.Prelude.{◌≡◌, ◌≤◌, ◌&&◌, find, length
 ghost use Rattle.std.specs.Option.{option_copied};
 ghost use Rattle.std.specs.Str.{bytes_eq};
 ghost use Rattle.hex.specs.Hex.{hex_digit_value};
-ghost use Rattle.kl_kit.specs.Forms.{area_of, base_if, base_of, class_of, digits_number, end_of, file_of, is_file, is_kernel_output, is_reserved, is_word, kind_of, name_of, number_of, refuse_of, word_of};
+ghost use Rattle.kl_kit.specs.Forms.{area_of, base_if, base_of, class_of, digits_number, dir_of, end_of, file_of, is_file, is_kernel_output, is_reserved, is_word, kind_of, name_of, number_of, refuse_of, word_of};
 
 use kl_base::{
     BASE_LIMIT, Class, FILE_LIMIT, Name, NoMemory, OUTPUT_LIMIT, PAGE, SCRATCH_SUFFIX, WORD_LIMIT,
@@ -60,6 +60,17 @@ pub(crate) fn name_of(word: &[u8]) -> Option<Name>
     ensures { result ≡ name_of word.now }
 {
     Name::from_bytes(word).ok()
+}
+
+/// The word, where it is a DIR: a name below the folder of all kits.
+pub(crate) fn dir_of(word: &[u8]) -> Option<Name>
+    ensures { result ≡ dir_of word.now }
+{
+    if word.len() <= FILE_LIMIT && word.starts_with(b"/usr/share/relink/") {
+        name_of(word)
+    } else {
+        None
+    }
 }
 
 pub(crate) fn kind_of(word: &[u8]) -> Option<KitKind>

@@ -1,7 +1,7 @@
 use Rattle.std.proofs.Common.{◌≤◌, ◌∙◌, length, take, sym, ap, arith, add-one}
 use Rattle.kl_text.specs.Lines.{lines}
 use Rattle.kl_kit.specs.KitLines.{said, statements}
-use Rattle.kl_kit.specs.KitTexts.{kit_faults, kit_of, missing}
+use Rattle.kl_kit.specs.KitTexts.{kit_faults, kit_of, missing, missing_faults, said_faults}
 use Rattle.kl_kit.proofs.InputFiles.{files_read}
 use Rattle.kl_kit.proofs.LinkedKits.{linked_read}
 use Rattle.kl_kit.proofs.ReadKits.{readable_read}
@@ -9,6 +9,7 @@ use Rattle.kl_kit.proofs.Reading.{all_read, all_said, empty_is, faults_end, hand
 use Rattle.kl_kit.proofs.read.read_kit.Goals as goal
 
 pub returns-in_err-read_line-clause-fault : goal.returns-in_err-read_line-clause-fault
+unfolding kit_faults
 returns-in_err-read_line-clause-fault c =
     let text = c.args.text.now in
     let i = c.loop-rest.number in
@@ -16,7 +17,7 @@ returns-in_err-read_line-clause-fault c =
     let more = lines c.next_line.result.1.now in
     let next = next_at (lines text) i l more (sym c.next_line.ensures.lines ∙ c.loop-rest.invariant.rest) in
     handed_on (kit_faults text) c.in_err-read_line.field-0.0 c.from_residual.result c.from_residual.ensures.1
-    (line_first text i l more c.in_err-read_line.field-0.0 next c.loop-rest.invariant.sound (c.in_err-read_line.ensures.fault (said (take i (lines text))) c.loop-rest.invariant.read))
+    (line_first said_faults missing_faults text i l more c.in_err-read_line.field-0.0 next c.loop-rest.invariant.sound (c.in_err-read_line.ensures.fault (said (take i (lines text))) c.loop-rest.invariant.read))
 
 pub loop-rest-preserved : goal.loop-rest-preserved
 loop-rest-preserved c =
@@ -28,7 +29,7 @@ loop-rest-preserved c =
     record {
       rest = rw add-one next.behind;
       short = omega arith;
-      sound = sound_more (lines text) i l more next c.loop-rest.invariant.sound (c.in_ok-read_line.ensures.sound (said (take i (lines text))) c.loop-rest.invariant.read);
+      sound = sound_more said_faults (lines text) i l more next c.loop-rest.invariant.sound (c.in_ok-read_line.ensures.sound (said (take i (lines text))) c.loop-rest.invariant.read);
       read = rw (said_more (lines text) i l more next) (c.in_ok-read_line.ensures.read (said (take i (lines text))) c.loop-rest.invariant.read);
     }
 
@@ -41,11 +42,12 @@ returns-clause-kit c =
     rw (all_said text i end) at (c.kit.ensures.kit (statements (said (take i (lines text)))) c.loop-rest.invariant.read.parts)
 
 pub returns-clause-sound : goal.returns-clause-sound
+unfolding kit_faults
 returns-clause-sound c =
     let text = c.args.text.now in
     let i = c.loop-rest.number in
     let end : length (lines text) ≤ i = all_read text i (ap lines (sym (empty_is c.loop-rest.rest.now c.loop-rest-test.ensures)) ∙ c.loop-rest.invariant.rest) in
-    rw (faults_end text i end c.loop-rest.invariant.sound)
+    rw (faults_end said_faults missing_faults text i end c.loop-rest.invariant.sound)
     (none_missing (missing (statements (said (lines text)))) c.kit.result
     (rw (all_said text i end) at (c.kit.ensures.sound (statements (said (take i (lines text)))) c.loop-rest.invariant.read.parts)))
 
@@ -61,9 +63,10 @@ pub returns-clause-readable : goal.returns-clause-readable
 returns-clause-readable c = readable_read c.args.text.now c.kit.result (returns-clause-kit c) (returns-clause-sound c)
 
 pub returns-clause-fault : goal.returns-clause-fault
+unfolding kit_faults
 returns-clause-fault c =
     let text = c.args.text.now in
     let i = c.loop-rest.number in
     let end : length (lines text) ≤ i = all_read text i (ap lines (sym (empty_is c.loop-rest.rest.now c.loop-rest-test.ensures)) ∙ c.loop-rest.invariant.rest) in
-    rw (faults_end text i end c.loop-rest.invariant.sound)
+    rw (faults_end said_faults missing_faults text i end c.loop-rest.invariant.sound)
     (rw (all_said text i end) at (c.kit.ensures.fault (statements (said (take i (lines text)))) c.loop-rest.invariant.read.parts))
