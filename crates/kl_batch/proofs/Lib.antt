@@ -1,3 +1,4 @@
 pub mod Placing
 pub mod Prefixes
 pub mod Matched
+pub mod LibraryNames

@@ -1,9 +1,10 @@
 -- The batches of a job, and the names after some first ones of them.
-use Rattle.std.specs.Prelude.{ℕ, ◌≡◌, ◌≢◌, ◌⊎◌, ◌≤◌, ◌<◌, List, [], ◌∷◌, ◌++◌, codes, length, take, false, true, None, Some}
+use Rattle.std.specs.Prelude.{ℕ, ◌≡◌, ◌≢◌, ◌⊎◌, ◌≤◌, ◌<◌, nat_eq, List, [], ◌∷◌, ◌++◌, codes, length, take, false, true, None, Some}
 use Rattle.std.specs.FinMap.{get}
-use Rattle.std.specs.List.{AllByRecursion}
+use Rattle.std.specs.List.{AllByRecursion, ends_with}
 use Rattle.sha2.specs.Sha256.{sha256}
 use Rattle.kl_base.specs.declared.class.Slot.{Slot}
+use Rattle.kl_base.specs.declared.limits.TheConstants.{OUTPUT_LIMIT}
 use Rattle.kl_store.specs.Disk.{Disk, names_now}
 use Rattle.kl_store.specs.Names.{Names, is_scratch}
 use Rattle.kl_digest.specs.Records.{IsRecord, record_of}
@@ -28,9 +29,12 @@ pub record Plan : Type 0 where
 abbrev pub output_of : Plan → List ℕ
 output_of p = p.kit.output
 
--- the name of a library's map
+-- THE NAME OF A LIBRARY'S MAP, by the library's name
+abbrev pub map_of : List ℕ → List ℕ
+map_of output = codes "/var/db/relink" ++ (output ++ codes ".map")
+
 abbrev pub library_map : Plan → List ℕ
-library_map p = codes "/var/db/relink" ++ (output_of p ++ codes ".map")
+library_map p = map_of (output_of p)
 
 -- THE FILES OF A BATCH of this image and this map text, by the kind of the kit: the image, for a kernel the record of its digest, the map
 abbrev pub files_for : KitKind → Plan → List ℕ → List ℕ → List File
@@ -92,6 +96,16 @@ pub record AreInstalled (slot : Slot) (plans : List Plan) (m : Names) (d : Disk)
 -- an image, a record and a map text under the kernel's names
 abbrev pub kernel_files : List ℕ → List ℕ → List ℕ → List File
 kernel_files image record_text map = file KERNEL image ∷ file KERNEL_RECORD record_text ∷ file KERNEL_MAP map ∷ []
+
+-- an image and a map text under a library's names
+abbrev pub library_files : List ℕ → List ℕ → List ℕ → List File
+library_files output image map = file output image ∷ file (map_of output) map ∷ []
+
+-- a name under which a library may be installed: it may be a target, is within the limit of outputs, and is that of no map
+pub record IsLibraryName (output : List ℕ) : Type 0 where
+  pub target : is_target output ≡ true
+  pub short : length output ≤ OUTPUT_LIMIT
+  pub no_map : ends_with nat_eq output (codes ".map") ≡ false
 
 -- a plan of a kernel
 pub record IsKernelPlan (p : Plan) : Type 0 where

@@ -5,7 +5,7 @@ pub mod Steps
 pub mod Moves
 pub mod Whole
 pub mod Again
-pub mod TempNames
+pub mod Suffixes
 pub mod Stagings
 pub mod Redone
 pub mod Ended

@@ -1,3 +1,4 @@
+pub mod Suffix
 pub mod After
 pub mod Standing
 pub mod Batch

@@ -16,7 +16,8 @@ ghost use Rattle.kl_install.specs.Others.{IsOther};
 ghost use Rattle.kl_install.specs.Moving.{IsMoving, AreMoved, HasIntent, MayIntend, CanMove, CanRemove};
 ghost use Rattle.kl_base.specs.declared.limits.TheConstants.{ENTRY_LIMIT};
 
-use kl_base::{INTENT_LIMIT, NAME_LIMIT, Name, SCRATCH_SUFFIX, Slot, TARGET_LIMIT};
+use crate::suffix::with_suffix;
+use kl_base::{INTENT_LIMIT, Name, SCRATCH_SUFFIX, Slot, TARGET_LIMIT};
 use kl_intent::{Entry, Intent, print_intent, slot_name};
 use kl_store::{Failed, Store, write_whole};
 
@@ -79,21 +80,7 @@ pub fn temp_name(name: &Name) -> Name
     requires { length name.now ≤ TARGET_LIMIT }
     ensures { result ≡ temp_name name.now }
 {
-    let mut bytes = [0; NAME_LIMIT];
-    let at = put(&mut bytes, 0, name.bytes());
-    let end = put(&mut bytes, at, &SCRATCH_SUFFIX);
-    Name::from_bytes(&bytes[..end]).unwrap()
-}
-
-// Puts the bytes from that place on, and gives the place behind them.
-fn put(out: &mut [u8; NAME_LIMIT], at: usize, bytes: &[u8]) -> usize
-    requires { at + length bytes.now ≤ NAME_LIMIT }
-    ensures end { result ≡ at + length bytes.now }
-    ensures text { take result out.new ≡ take at out.old ++ bytes.now }
-{
-    let end = at + bytes.len();
-    out[at..end].copy_from_slice(bytes);
-    end
+    with_suffix(name, &SCRATCH_SUFFIX)
 }
 
 // The slot has the intent, on the disk.

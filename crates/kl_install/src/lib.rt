@@ -6,6 +6,8 @@ mod installer;
 mod recover;
 mod sound;
 mod stage;
+mod suffix;
 
 pub use installer::Installer;
 pub use recover::{SlotEnd, Unsound};
+pub use suffix::with_suffix;
