@@ -81,7 +81,6 @@ link_and_show() {
     echo "status $status"
     case $status in
     0) ;;
-    19) fail "the kit is a library's, or an archive is among its objects: neither is linked yet" ;;
     *) fail "relink ended with status $status: docs/formats.md says what it means" ;;
     esac
     echo

@@ -12,7 +12,7 @@ from concurrent.futures import ThreadPoolExecutor
 import expected
 
 CUTS, CHANGES = 24, 72
-NAMES = {0: "linked", 13: "with a flaw", 14: "refused by the linker", 19: "not linked yet"}
+NAMES = {0: "linked", 13: "with a flaw", 14: "refused by the linker"}
 SCRATCH = ".relink"
 SEED = bytes(range(32))
 

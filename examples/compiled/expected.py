@@ -472,8 +472,6 @@ FAULTS = {"Undefined": 1, "Doubled": 2, "Kind": 3, "Range": 4, "Removed": 7, "No
 def expected(bytes_, entry, seed):
     """The status of a link of the object alone, as the kit's fourth line, a word on why, the image, and how the line begins that is
     written to standard output."""
-    if bytes_[:8] in (b"!<arch>\n", b"!<thin>\n"):
-        return 19, "an archive", None, b""
     try:
         kernel = Kernel(Object(bytes_), entry, order.gaps(seed, b"/bsd"))
     except Flaw as flaw:

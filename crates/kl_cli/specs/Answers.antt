@@ -13,7 +13,7 @@ use Rattle.kl_jobs.specs.Recovery.{recovery_refusal}
 use Rattle.kl_jobs.specs.Refusals.{EndsUnder, IsOutside, LacksSeed, StandsEarly, late_refusal}
 use Rattle.kl_jobs.specs.declared.fault.JobFault.{JobFault}
 use Rattle.kl_jobs.specs.declared.cause.Cause.{Cause}
-use Rattle.kl_jobs.specs.declared.cause.Cause.TheVariants.{Done, Usage, NoMemory, Store, Entropy, Sink, NotYet}
+use Rattle.kl_jobs.specs.declared.cause.Cause.TheVariants.{Done, Usage, NoMemory, Store, Entropy, Sink}
 use Rattle.kl_jobs.specs.declared.cause.Cause.TheVariants as cause
 use Rattle.kl_lines.specs.Lines.{cause_line, generate_line, kernel_line, link_line, slot_lines}
 use Rattle.kl_cli.specs.Commands.{request_of}
@@ -40,7 +40,6 @@ status_of (cause.Link f) = 14
 status_of (cause.Pending slot) = 15
 status_of (cause.Foreign slot entry target temp) = 16
 status_of (cause.Intent slot line) = 17
-status_of NotYet = 19
 
 -- THE FIRST REFUSAL that stands in the names before a seed is asked for, and the first that stands behind it, under a seed
 abbrev pub early : Names → Command → Option Cause

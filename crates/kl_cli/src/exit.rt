@@ -50,6 +50,5 @@ pub fn status(cause: &Cause) -> u8
         Cause::Pending { .. } => 15,
         Cause::Foreign { .. } => 16,
         Cause::Intent { .. } => 17,
-        Cause::NotYet => 19,
     }
 }

@@ -12,7 +12,7 @@ use Rattle.kl_jobs.specs.Reading.{inputs_in, kit_in, kit_order, lines_refusal, t
 use Rattle.kl_jobs.specs.Refusals.{EndsUnder, IsJobRefusal, IsRefusal, Refuses, RefusesJob, inputs_refusal, kit_refusal, late_refusal}
 use Rattle.kl_jobs.specs.Seeds.{IsSeed}
 use Rattle.kl_jobs.specs.declared.cause.Cause.{Cause}
-use Rattle.kl_jobs.specs.declared.cause.Cause.TheVariants.{Done, Usage, NoMemory, Store, Entropy, Sink, NotYet}
+use Rattle.kl_jobs.specs.declared.cause.Cause.TheVariants.{Done, Usage, NoMemory, Store, Entropy, Sink}
 use Rattle.kl_jobs.specs.declared.cause.Cause.TheVariants as cause
 
 -- why a file isn't read is no cause of the words or the sink
@@ -31,7 +31,6 @@ job_refusal (cause.Record r) h = tt
 job_refusal (cause.Mismatch recorded found) h = tt
 job_refusal (cause.Foreign slot entry target temp) h = absurd h
 job_refusal (cause.Intent slot line) h = absurd h
-job_refusal NotYet h = tt
 
 -- it is no fault of the source of random bytes
 pub not_entropy : (c : Cause) {P : Type 0} → IsRefusal c → c ≡ Entropy → P

@@ -1,12 +1,14 @@
 -- The lines of a kit in kit order, and its inputs.
-use Rattle.std.proofs.Common.{ℕ, suc, ◌≡◌, ◌<◌, ◌≤◌, ◌∙◌, List, [], ◌∷◌, ◌++◌, length, map, get_or, refl, sym, ap, arith, Bool, true, not, ◌&&◌, inl, inr}
+use Rattle.std.proofs.Common.{ℕ, suc, ◌≡◌, ◌<◌, ◌≤◌, List, [], ◌∷◌, ◌++◌, length, map, get_or, refl, sym, subst, ◌+◌, arith, Bool, true, not, ◌&&◌, inl, inr}
 use Rattle.std.specs.Prelude.{All, AllPairs, None, Some, Option, ◌==◌, nat_le, nat_eq, is_none, sum_by, codes}
 use Rattle.std.specs.Str.{bytes_eq}
 use Rattle.std.specs.List.{AllByRecursion, ends_with}
 use Rattle.std.proofs.lemmas.Bool.{cases_Bool, eqb-true, leb-true}
-use Rattle.std.proofs.lemmas.List.{get_or-map, length-map}
+use Rattle.std.proofs.lemmas.List.{get_or_default}
 use Rattle.std.proofs.lemmas.List.Elements.{All-append, All-cons, All-nil}
 use Rattle.kl_base.proofs.Bools.{and_left, and_right}
+use Rattle.kl_ar.specs.Archives.{members_of}
+use Rattle.kl_ar.specs.declared.member.Member.{Member}
 use Rattle.kl_base.specs.Names.{name_fault}
 use Rattle.kl_base.specs.declared.limits.TheConstants.{FILE_LIMIT, SCRATCH_SUFFIX}
 use Rattle.kl_model.specs.Fit.{AreFit, IsFit}
@@ -17,7 +19,7 @@ use Rattle.kl_model.specs.declared.object.Part.{Part}
 use Rattle.kl_model.specs.declared.object.Part.TheVariants.{Head, Drawn, Tail}
 use Rattle.kl_model.proofs.Each.{pairs-append}
 use Rattle.kl_kit.specs.Forms.{HasFile, is_file}
-use Rattle.kl_jobs.specs.Reading.{kit_order, lines_of, over}
+use Rattle.kl_jobs.specs.Reading.{inputs_of, input_of, is_archive, kit_order, lines_of, member_input, over}
 use Rattle.kl_jobs.proofs.Readings.{bounds}
 
 none_is : {X : Type 0} (o : Option X) → is_none o ≡ true → o ≡ None
@@ -88,29 +90,56 @@ in_kit_order lines =
     (pairs-append Follows (lines_of Drawn lines) (lines_of Tail lines) (all_alike 1 _ drawn) (all_alike 2 _ tail) (one_before 1 2 _ _ (omega arith) drawn (at_least 2 _ tail)))
     (one_before 0 1 _ _ (omega arith) head later)
 
-no_line : KitInput
-no_line = record { place = Tail; file = []; line = 0 }
+-- INPUTS IN THAT ORDER: those of a file are all of its line's part, and those of one line after another follow
+abbrev pub InputFollows : Input → Input → Type 0
+InputFollows x y = part_number x.place ≤ part_number y.place
 
--- inputs whose parts are those of lines in order
-places_follow : (xs : List Input) (ks : List KitInput) → map (λ (x : Input). x.place) xs ≡ map (λ (k : KitInput). k.place) ks → AllPairs Follows ks
-    → AllPairs (λ x y. part_number x.place ≤ part_number y.place) xs
-places_follow xs ks same follow = λ i j d low high.
-    let n = length-map xs (λ (x : Input). x.place) in let m = length-map ks (λ (k : KitInput). k.place) in let lengths = ap length same in
-    let first : i < length xs = omega (arith, low, high) in
-    let at : (i : ℕ) → i < length xs → (get_or xs i d).place ≡ (get_or ks i no_line).place =
-    λ i less.
-    sym (get_or-map (λ (x : Input). x.place) xs i d d.place less) ∙ ap (λ l. get_or l i d.place) same
-    ∙ get_or-map (λ (k : KitInput). k.place) ks i no_line d.place (omega (arith, less, n, m, lengths)) in
-    rw (at i first, at j high) (follow i j no_line low (omega (arith, high, n, m, lengths)))
+members_of_part : (place : Part) (b : List ℕ) (ms : List Member) → All (λ x. x.place ≡ place) (map (member_input place b) ms)
+members_of_part place b [] = All-nil (λ x. x.place ≡ place)
+members_of_part place b (m ∷ ms) = All-cons (λ x. x.place ≡ place) (member_input place b m) (map (member_input place b) ms) refl (members_of_part place b ms)
+
+file_of_part : (place : Part) (b : List ℕ) → All (λ x. x.place ≡ place) (inputs_of place b)
+file_of_part place b = elim (cases_Bool (is_archive b)) [
+  | inl e ↦ rw e (members_of_part place b (members_of b))
+  | inr e ↦ rw e (All-cons (λ x. x.place ≡ place) (input_of place b) [] refl (All-nil (λ x. x.place ≡ place)))
+]
+
+pub pairs_none : AllPairs InputFollows []
+pairs_none = λ i j d low high. omega (arith, high)
+
+-- all these inputs may stand before the lines from this one on
+abbrev pub IsBefore : List KitInput → ℕ → Input → Type 0
+IsBefore all i x = (j : ℕ) (d : KitInput) → i ≤ j → j < length all → part_number x.place ≤ part_number (get_or all j d).place
+
+abbrev pub ComeBefore : List KitInput → ℕ → List Input → Type 0
+ComeBefore all i xs = All (IsBefore all i) xs
+
+module _ (all : List KitInput) (follow : AllPairs Follows all) (i : ℕ) (k : KitInput) (less : i < length all) (here : k ≡ get_or all i k) (xs : List Input) (b : List ℕ)
+    (before : ComeBefore all i xs) where
+  pub follow_on : AllPairs InputFollows xs → AllPairs InputFollows (xs ++ inputs_of k.place b)
+  follow_on pairs =
+      let new = file_of_part k.place b in
+      pairs-append InputFollows xs (inputs_of k.place b) pairs
+      (λ m n d low high. rw (new m d (omega (arith, low, high)), new n d high) (omega arith))
+      (λ m d low. λ n e high. rw (new n e high) (subst (λ (j : KitInput). part_number (get_or xs m d).place ≤ part_number j.place) (sym here) (before m d low i k (omega arith) less)))
+
+  pub before_on : ComeBefore all (i + 1) (xs ++ inputs_of k.place b)
+  before_on =
+      let new = file_of_part k.place b in
+      All-append (IsBefore all (i + 1)) xs (inputs_of k.place b) (λ m d low. λ j e from less. before m d low j e (omega (arith, from)) less)
+      (λ m d low. λ j e from less. rw (new m d low) (subst (λ (l : KitInput). part_number l.place ≤ part_number (get_or all j e).place) (sym here) (at j e from less)))
+    where
+      at : (j : ℕ) (e : KitInput) → i + 1 ≤ j → j < length all → part_number (get_or all i k).place ≤ part_number (get_or all j e).place
+      at j e from less = rw (get_or_default all j e k less) (follow i j k (omega (arith, from)) less)
 
 -- THE INPUTS OF A KIT ARE FIT
-pub are_fit : (xs : List Input) (lines : List KitInput) → All IsFit xs → over xs ≡ None → map (λ (x : Input). x.place) xs ≡ map (λ (k : KitInput). k.place) (kit_order lines) → AreFit xs
-are_fit xs lines fit none same =
+pub are_fit : (xs : List Input) → All IsFit xs → over xs ≡ None → AllPairs InputFollows xs → AreFit xs
+are_fit xs fit none follow =
     let w = bounds xs (length xs) (sum_by (λ x. length x.bytes) xs) (sum_by (λ x. length x.object.sections) xs) (sum_by (λ x. length x.object.symbols) xs) (sum_by (λ x. length x.object.fields) xs)
     (record { inputs_are = refl; bytes_are = refl; sections_are = refl; symbols_are = refl; fields_are = refl }) none in
     record {
       each_input = fit;
-      places = places_follow xs (kit_order lines) same (in_kit_order lines);
+      places = follow;
       count = w.0;
       bytes = w.1.0;
       sections = w.1.1.0;

@@ -1,10 +1,14 @@
 -- The kit and the inputs of a folder, as its files say, and the first refusal that stands in those files.
-use Rattle.std.specs.Prelude.{ℕ, ◌≡◌, Bool, ◌||◌, ◌==◌, if◌then◌else◌, nat_lt, List, [], ◌∷◌, ◌++◌, filter, length, map, sum_by, slice_get, codes, nat_eq, Option, Some, None, unwrap_or}
+use Rattle.std.specs.Prelude.{ℕ, ◌≡◌, Bool, ◌||◌, ◌==◌, if◌then◌else◌, nat_lt, List, [], ◌∷◌, ◌++◌, filter, flat_map, length, map, sum_by, slice_get, codes, nat_eq, Option, Some, None, unwrap_or}
 use Rattle.std.specs.Option.{option_map, option_or}
 use Rattle.std.specs.List.{starts_with}
 use Rattle.std.specs.FinMap.{get}
 use Rattle.kl_base.specs.declared.limits.TheConstants.{FIELD_COUNT_LIMIT, INPUT_BYTES_LIMIT, INPUT_COUNT_LIMIT, INPUT_LIMIT, KIT_TEXT_LIMIT, SECTION_COUNT_LIMIT, SYMBOL_COUNT_LIMIT}
 use Rattle.kl_store.specs.Names.{Names}
+use Rattle.kl_ar.specs.Archives.{faults, members_of}
+use Rattle.kl_ar.specs.Fields.{bytes_at}
+use Rattle.kl_ar.specs.declared.fault.ArFault.{ArFault}
+use Rattle.kl_ar.specs.declared.member.Member.{Member}
 use Rattle.kl_model.specs.Kept.{part_number}
 use Rattle.kl_model.specs.declared.kit.Kit.{Kit}
 use Rattle.kl_model.specs.declared.kit.KitInput.{KitInput}
@@ -18,10 +22,9 @@ use Rattle.kl_kit.specs.declared.fault.KitFault.{KitFault}
 use Rattle.kl_rel.specs.Objects.{flaw, object}
 use Rattle.kl_rel.specs.declared.fault.ReadFault.{ReadFault}
 use Rattle.kl_jobs.specs.declared.cause.Cause.{Cause}
-use Rattle.kl_jobs.specs.declared.cause.Cause.TheVariants.{NotYet}
 use Rattle.kl_jobs.specs.declared.cause.Cause.TheVariants as cause
 use Rattle.kl_jobs.specs.declared.cause.KitCause.TheVariants.{Absent, Kind, Text, TooLong, Total}
-use Rattle.kl_jobs.specs.declared.cause.ObjectCause.TheVariants.{Elf}
+use Rattle.kl_jobs.specs.declared.cause.ObjectCause.TheVariants.{Ar, Elf}
 use Rattle.kl_jobs.specs.declared.cause.TotalOf.{TotalOf}
 use Rattle.kl_jobs.specs.declared.cause.TotalOf.TheVariants.{Inputs, Bytes, Sections, Symbols, Fields}
 
@@ -47,13 +50,25 @@ lines_of part lines = filter (λ k. part_number k.place == part_number part) lin
 abbrev pub kit_order : List KitInput → List KitInput
 kit_order lines = lines_of Head lines ++ (lines_of Drawn lines ++ lines_of Tail lines)
 
--- the input of a part whose file has these bytes
+-- the input of a part that has these bytes
 abbrev pub input_of : Part → List ℕ → Input
 input_of place b = record { place = place; bytes = b; object = object b }
 
--- THE INPUTS of some lines
+-- AN ARCHIVE, by its first eight bytes: one with its members, or a thin one, which only names them
+abbrev pub is_archive : List ℕ → Bool
+is_archive b = starts_with nat_eq b (codes "!<arch>" ++ 10 ∷ []) || starts_with nat_eq b (codes "!<thin>" ++ 10 ∷ [])
+
+-- the input that a member of an archive is: its own bytes
+abbrev pub member_input : Part → List ℕ → Member → Input
+member_input place b member = input_of place (bytes_at b member.start member.len)
+
+-- THE INPUTS OF A FILE: the members of an archive in file order, or the one object that any other file is
+abbrev pub inputs_of : Part → List ℕ → List Input
+inputs_of place b = if is_archive b then map (member_input place b) (members_of b) else input_of place b ∷ []
+
+-- those of some lines, file by file
 abbrev pub inputs_in : Names → List ℕ → List KitInput → List Input
-inputs_in m dir lines = map (λ k. input_of k.place (held m (below dir k.file))) lines
+inputs_in m dir lines = flat_map (λ k. inputs_of k.place (held m (below dir k.file))) lines
 
 -- WHY A FILE ISN'T READ: the name is absent, or its file is longer than the limit
 abbrev pub fault_of : List ℕ → ℕ → Option (List ℕ) → Option Cause
@@ -81,10 +96,6 @@ contents_refusal wanted text = option_or (option_map text_cause (slice_get (kit_
 abbrev pub text_refusal : Option KitKind → Names → List ℕ → Option Cause
 text_refusal wanted m dir = option_or (file_fault m (kit_text dir) KIT_TEXT_LIMIT) (contents_refusal wanted (held m (kit_text dir)))
 
--- an archive, by its first eight bytes: one with its members, or a thin one, which only names them
-abbrev pub is_archive : List ℕ → Bool
-is_archive b = starts_with nat_eq b (codes "!<arch>" ++ 10 ∷ []) || starts_with nat_eq b (codes "!<thin>" ++ 10 ∷ [])
-
 -- what some inputs have too much of for a kit, of so many inputs, bytes, sections, symbols and fields
 abbrev pub over_totals : ℕ → ℕ → ℕ → ℕ → ℕ → Option TotalOf
 over_totals inputs bytes sections symbols fields =
@@ -99,7 +110,7 @@ over xs =
     over_totals (length xs) (sum_by (λ x. length x.bytes) xs) (sum_by (λ x. length x.object.sections) xs)
     (sum_by (λ x. length x.object.symbols) xs) (sum_by (λ x. length x.object.fields) xs)
 
--- WHY AN INPUT IS REFUSED, of a kit line and behind other inputs: it is an archive; its first flaw; what it takes the kit past
+-- WHY AN INPUT IS REFUSED, of a kit line and behind other inputs: its first flaw; what it takes the kit past
 abbrev pub flaw_cause : ℕ → List Input → ReadFault → Cause
 flaw_cause line before f = cause.Object (length before) line (Elf f)
 
@@ -107,20 +118,34 @@ abbrev pub total_cause : ℕ → TotalOf → Cause
 total_cause line what = cause.Kit (Total what line)
 
 unfoldable pub input_refusal : ℕ → List Input → Input → Option Cause
-input_refusal line before x =
-    if is_archive x.bytes then Some NotYet
-    else option_or (option_map (flaw_cause line before) (flaw x.bytes)) (option_map (total_cause line) (over (before ++ x ∷ [])))
+input_refusal line before x = option_or (option_map (flaw_cause line before) (flaw x.bytes)) (option_map (total_cause line) (over (before ++ x ∷ [])))
 
--- that of a line: why its file isn't read, and then of its input
+-- that of inputs, one after another
+abbrev pub each_refusal : ℕ → List Input → List Input → Option Cause
+each_refusal line before [] = None
+each_refusal line before (x ∷ xs) = option_or (input_refusal line before x) (each_refusal line (before ++ x ∷ []) xs)
+
+-- WHY A FILE'S BYTES ARE REFUSED: those of an archive for its first fault, told at the number that its first member would have; then input by
+-- input
+abbrev pub archive_fault : List ℕ → Option ArFault
+archive_fault b = if is_archive b then slice_get (faults b) 0 else None
+
+abbrev pub archive_cause : ℕ → List Input → ArFault → Cause
+archive_cause line before f = cause.Object (length before) line (Ar f)
+
+abbrev pub bytes_refusal : ℕ → List Input → Part → List ℕ → Option Cause
+bytes_refusal line before place b = option_or (option_map (archive_cause line before) (archive_fault b)) (each_refusal line before (inputs_of place b))
+
+-- that of a line: why its file isn't read, and then that of its bytes
 abbrev pub line_refusal : Names → List ℕ → List Input → KitInput → Option Cause
 line_refusal m dir before k =
-    option_or (file_fault m (below dir k.file) INPUT_LIMIT) (input_refusal k.line before (input_of k.place (held m (below dir k.file))))
+    option_or (file_fault m (below dir k.file) INPUT_LIMIT) (bytes_refusal k.line before k.place (held m (below dir k.file)))
 
 -- that of lines, one after another
 abbrev pub lines_refusal : Names → List ℕ → List Input → List KitInput → Option Cause
 lines_refusal m dir before [] = None
 lines_refusal m dir before (k ∷ ks) =
-    option_or (line_refusal m dir before k) (lines_refusal m dir (before ++ input_of k.place (held m (below dir k.file)) ∷ []) ks)
+    option_or (line_refusal m dir before k) (lines_refusal m dir (before ++ inputs_of k.place (held m (below dir k.file))) ks)
 
 -- how much some inputs have
 pub record Counts (xs : List Input) (inputs bytes sections symbols fields : ℕ) : Type 0 where

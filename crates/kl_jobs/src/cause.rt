@@ -1,4 +1,5 @@
 // Why a command ended.
+use kl_ar::ArFault;
 use kl_base::{Name, NoMemory, Slot};
 use kl_digest::RecordFault;
 use kl_kit::KitFault;
@@ -35,7 +36,8 @@ pub enum Cause {
     },
     /// The kit isn't read.
     Kit(KitCause),
-    /// An input isn't read: its number, its line in the kit text, and the first flaw of its bytes.
+    /// An input isn't read: its number, its line in the kit text, and the first flaw of its bytes. For an archive the number is the one that
+    /// its first member would have.
     Object {
         input: u32,
         line: u32,
@@ -43,8 +45,6 @@ pub enum Cause {
     },
     /// The kit doesn't link.
     Link(LinkFault),
-    /// An input is of a form that isn't linked yet: an archive.
-    NotYet,
     /// In a recovery: the entry of that number of the slot's intent, counted from 0, isn't sound. The digests are those of what its target
     /// and its temporary hold, None where they are absent.
     Foreign {
@@ -74,6 +74,8 @@ pub enum RecordCause {
 pub enum ObjectCause {
     /// A flaw of a relocatable object.
     Elf(ReadFault),
+    /// A fault of an archive.
+    Ar(ArFault),
 }
 
 /// Why a kit isn't read.

@@ -37,6 +37,7 @@ impl fmt::Display for ObjectCause {
     fn fmt<W: fmt::Write>(&self, f: &mut fmt::Formatter<W>) -> fmt::Result {
         match self {
             ObjectCause::Elf(fault) => write!(f, "{fault}"),
+            ObjectCause::Ar(fault) => write!(f, "{fault}"),
         }
     }
 }
@@ -74,7 +75,6 @@ impl fmt::Display for Cause {
             Cause::Kit(cause) => write!(f, "{cause}"),
             Cause::Object { line, fault, .. } => write!(f, "the object of line {line}: {fault}"),
             Cause::Link(fault) => write!(f, "{fault}"),
-            Cause::NotYet => f.write_str("the kit is of a form that isn't linked yet"),
             Cause::Foreign { entry, .. } => write!(
                 f,
                 "the file of entry {entry} of an intent is neither the old nor the new one"

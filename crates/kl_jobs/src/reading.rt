@@ -1,10 +1,12 @@
 // The kit of a folder, and its inputs, one file after another.
-ghost use Rattle.std.specs.Prelude.{List, false, ◌≡◌, ◌≢◌, ◌<◌, ◌≤◌, ◌+◌, ◌++◌, ◌∷◌, ◌⊎◌, ◌==◌, ◌^◌, [], None, Some, All, AllPairs, filter, length, map, IfOk, IfErr, IfSome, OnOk, IsErrOf};
+ghost use Rattle.std.specs.Prelude.{List, ◌≡◌, ◌≢◌, ◌<◌, ◌≤◌, ◌+◌, ◌++◌, ◌∷◌, ◌⊎◌, ◌==◌, ◌^◌, [], None, Some, All, AllPairs, filter, length, map, IfOk, IfErr, IfSome, OnOk, IsErrOf};
 ghost use Rattle.std.specs.List.{AllByRecursion};
 ghost use Rattle.std.specs.Option.{ForSome};
 ghost use Rattle.kl_base.specs.Names.{name_fault};
 ghost use Rattle.kl_base.specs.declared.limits.TheConstants.{FILE_LIMIT, INPUT_LIMIT};
 ghost use Rattle.kl_store.specs.Calls.{Rose, Stays};
+ghost use Rattle.kl_ar.specs.Fields.{bytes_at};
+ghost use Rattle.kl_ar.specs.Grammar.{IsWithin};
 ghost use Rattle.kl_model.specs.Fit.{AreFit, IsFit, IsKit};
 ghost use Rattle.kl_model.specs.Kept.{part_number};
 ghost use Rattle.kl_model.specs.declared.kit.KitKind.TheVariants.{Kernel};
@@ -12,12 +14,13 @@ ghost use Rattle.kl_kit.specs.Forms.{HasFile};
 ghost use Rattle.kl_batch.specs.declared.names.TheConstants.{KERNEL};
 ghost use Rattle.kl_model.specs.declared.object.Input.{Input};
 ghost use Rattle.kl_rel.specs.Objects.{flaw, object};
-ghost use Rattle.kl_jobs.specs.Reading.{Counts, below, input_of, input_refusal, inputs_in, kind_refusal, kit_in, kit_order as lines_in_kit_order, lines_of, lines_refusal, over, over_totals, text_refusal};
+ghost use Rattle.kl_jobs.specs.Reading.{Counts, below, bytes_refusal, each_refusal, input_of, input_refusal, inputs_in, inputs_of, kind_refusal, kit_in, kit_order as lines_in_kit_order, lines_of, lines_refusal, member_input, over, over_totals, text_refusal};
 ghost use Rattle.kl_jobs.specs.Reading.{is_archive as is_archive_of};
 ghost use Rattle.kl_jobs.specs.Refusals.{IsRefusal, Refuses};
 
 use crate::cause::{Cause, KitCause, ObjectCause, TotalOf};
 use crate::files::{file_in, read_file};
+use kl_ar::{ArError, Member, members};
 use kl_base::{
     FIELD_COUNT_LIMIT, INPUT_BYTES_LIMIT, INPUT_COUNT_LIMIT, INPUT_LIMIT, KIT_TEXT_LIMIT, Listed,
     Name, NoMemory, SECTION_COUNT_LIMIT, SYMBOL_COUNT_LIMIT,
@@ -124,8 +127,8 @@ struct Totals {
 ///
 /// # Errors
 ///
-/// The first refusal, line by line: `Kit` where a file is absent or too long, `NotYet` where it is an archive, `Object` with its first flaw,
-/// `Kit` where it takes the kit past a limit.
+/// The first refusal, line by line: `Kit` where a file is absent or too long, `Object` with the first fault of an archive; and then input by
+/// input `Object` with its first flaw, `Kit` where it takes the kit past a limit.
 pub fn read_inputs<S: Store>(
     alloc: Global,
     store: &mut S,
@@ -139,7 +142,7 @@ pub fn read_inputs<S: Store>(
     ensures stands { OnOk result (ForSome (S.meaning store.old).names (λ m. lines_refusal m dir.now [] lines.now ≡ None)) }
     ensures fit { IfOk result (λ v. All IsFit v.items) }
     ensures within { IfOk result (λ v. over v.items ≡ None) }
-    ensures places { IfOk result (λ v. map (λ x. x.place) v.items ≡ map (λ k. k.place) lines.now) }
+    ensures places { IfOk result (λ v. AllPairs (λ j k. part_number j.place ≤ part_number k.place) lines.now → AllPairs (λ x y. part_number x.place ≤ part_number y.place) v.items) }
     ensures refused { IfErr result (Refuses (S.meaning store.old) (λ m. lines_refusal m dir.now [] lines.now)) }
     ensures refusal { IfErr result IsRefusal }
     ensures failed { IsErrOf result Cause.Store → Rose (S.faults store.old) (S.faults store.new) }
@@ -157,12 +160,91 @@ pub fn read_inputs<S: Store>(
     for line in lines {
         let name = file_in(dir, line.file.items());
         let bytes = read_file(alloc, store, &name, INPUT_LIMIT)?;
-        push_input(alloc, line, bytes, &mut inputs, &mut totals)?;
+        push_file(alloc, line, bytes, &mut inputs, &mut totals)?;
     }
     Ok(inputs)
 }
 
-/// Reads the input of a line, and adds it to those before it.
+/// Reads the inputs of a line, whose file has these bytes, and adds them to those before them.
+fn push_file(
+    alloc: Global,
+    line: &KitInput,
+    bytes: Vec<u8>,
+    inputs: &mut Vec<Input>,
+    totals: &mut Totals,
+) -> Result<(), Cause>
+    requires short { length bytes.items ≤ INPUT_LIMIT }
+    requires counts { Counts inputs.old.items totals.old.inputs totals.old.bytes totals.old.sections totals.old.symbols totals.old.fields }
+    requires within { over inputs.old.items ≡ None }
+    requires fits { All IsFit inputs.old.items }
+    ensures push { OnOk result (inputs.new.items ≡ inputs.old.items ++ inputs_of line.now.place bytes.items) }
+    ensures counts { OnOk result (Counts inputs.new.items totals.new.inputs totals.new.bytes totals.new.sections totals.new.symbols totals.new.fields) }
+    ensures within { OnOk result (over inputs.new.items ≡ None) }
+    ensures fit { OnOk result (All IsFit inputs.new.items) }
+    ensures stands { OnOk result (bytes_refusal line.now.line inputs.old.items line.now.place bytes.items ≡ None) }
+    ensures refused { IfErr result (λ c. (c ≡ Cause.NoMemory) ⊎ (bytes_refusal line.now.line inputs.old.items line.now.place bytes.items ≡ Some c)) }
+    ensures refusal { IfErr result IsRefusal }
+    ensures no_store { IfErr result (λ c. c ≢ Cause.Store) }
+{
+    if !is_archive(&bytes) {
+        return push_input(alloc, line, bytes, inputs, totals);
+    }
+    let members = match members(alloc, &bytes) {
+        Ok(members) => members,
+        Err(ArError::NoMemory) => return Err(Cause::NoMemory),
+        Err(ArError::Flaw(fault)) => {
+            return Err(Cause::Object {
+                input: totals.inputs as u32,
+                line: line.line,
+                fault: ObjectCause::Ar(fault),
+            });
+        }
+    };
+    push_members(alloc, line, &bytes, &members, inputs, totals)
+}
+
+/// Reads these members of a line's archive, and adds them to the inputs before them.
+fn push_members(
+    alloc: Global,
+    line: &KitInput,
+    bytes: &[u8],
+    members: &[Member],
+    inputs: &mut Vec<Input>,
+    totals: &mut Totals,
+) -> Result<(), Cause>
+    requires short { length bytes.now ≤ INPUT_LIMIT }
+    requires inside { All (IsWithin bytes.now) members.now }
+    requires counts { Counts inputs.old.items totals.old.inputs totals.old.bytes totals.old.sections totals.old.symbols totals.old.fields }
+    requires within { over inputs.old.items ≡ None }
+    requires fits { All IsFit inputs.old.items }
+    ensures push { OnOk result (inputs.new.items ≡ inputs.old.items ++ map (member_input line.now.place bytes.now) members.now) }
+    ensures counts { OnOk result (Counts inputs.new.items totals.new.inputs totals.new.bytes totals.new.sections totals.new.symbols totals.new.fields) }
+    ensures within { OnOk result (over inputs.new.items ≡ None) }
+    ensures fit { OnOk result (All IsFit inputs.new.items) }
+    ensures stands { OnOk result (each_refusal line.now.line inputs.old.items (map (member_input line.now.place bytes.now) members.now) ≡ None) }
+    ensures refused { IfErr result (λ c. (c ≡ Cause.NoMemory) ⊎ (each_refusal line.now.line inputs.old.items (map (member_input line.now.place bytes.now) members.now) ≡ Some c)) }
+    ensures refusal { IfErr result IsRefusal }
+    ensures no_store { IfErr result (λ c. c ≢ Cause.Store) }
+{
+    for member in members {
+        let object = bytes_of(alloc, bytes, member)?;
+        push_input(alloc, line, object, inputs, totals)?;
+    }
+    Ok(())
+}
+
+/// A copy of the bytes of a member.
+fn bytes_of(alloc: Global, bytes: &[u8], member: &Member) -> Result<Vec<u8>, NoMemory>
+    requires { IsWithin bytes.now member.now }
+    ensures bytes { IfOk result (λ v. v.items ≡ bytes_at bytes.now member.now.start member.now.len) }
+    ensures short { IfOk result (λ v. length v.items ≤ length bytes.now) }
+{
+    let start = member.start as usize;
+    let copy = Vec::from_slice(alloc, &bytes[start..start + member.len as usize])?;
+    Ok(copy)
+}
+
+/// Reads an input of a line, which has these bytes, and adds it to those before it.
 fn push_input(
     alloc: Global,
     line: &KitInput,
@@ -183,9 +265,6 @@ fn push_input(
     ensures refusal { IfErr result IsRefusal }
     ensures no_store { IfErr result (λ c. c ≢ Cause.Store) }
 {
-    if is_archive(&bytes) {
-        return Err(Cause::NotYet);
-    }
     let object = read_input(alloc, line, &bytes, totals)?;
     let input = Input {
         place: line.place,
@@ -204,7 +283,7 @@ fn push_input(
     Ok(())
 }
 
-/// The object of a line's file that is no archive, behind inputs that have so much.
+/// The object of an input of a line, behind inputs that have so much.
 ///
 /// # Errors
 ///
@@ -216,7 +295,6 @@ fn read_input(
     totals: &Totals,
 ) -> Result<Object, Cause>
     requires short { length bytes.now ≤ INPUT_LIMIT }
-    requires plain { is_archive_of bytes.now ≡ false }
     requires inputs_fit { totals.now.inputs < 2 ^ 32 }
     requires bytes_fit { totals.now.bytes ≤ 2 ^ 32 }
     requires sections_fit { totals.now.sections ≤ 2 ^ 32 }

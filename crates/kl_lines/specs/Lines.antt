@@ -114,7 +114,7 @@ kit_line (TooLong name) = file_line (codes "relink: too long ") name
 kit_line Kind = codes "relink: wrong kind\n"
 kit_line (Total what line) = numbered_line (codes "relink: over limit line ") line
 
--- why an object isn't read, by its number and its line in the kit text
+-- why an object or an archive isn't read, by its number and its line in the kit text
 abbrev pub object_line : ℕ → ℕ → List ℕ
 object_line input line = codes "relink: object " ++ (decimal input ++ (codes " line " ++ (decimal line ++ codes "\n")))
 
@@ -155,8 +155,7 @@ link_fault_line link.NoMemory = codes "relink: out of memory\n"
 abbrev pub usage_line : List ℕ
 usage_line = codes "usage: relink link DIR | reorder_kernel | reorder_libs | recover | generate N; --seed HEX may end all but recover\n"
 
--- WHY A COMMAND ENDED; nothing is written where all was done, where the form of a kit isn't linked yet, and of a recovery, whose lines
--- are those of its slots
+-- WHY A COMMAND ENDED; nothing is written where all was done, and of a recovery, whose lines are those of its slots
 abbrev pub cause_line : Cause → List ℕ
 cause_line cause.Done = []
 cause_line cause.Usage = usage_line
@@ -170,6 +169,5 @@ cause_line (cause.Mismatch recorded found) = mismatch_line recorded found
 cause_line (cause.Kit c) = kit_line c
 cause_line (cause.Object input line f) = object_line input line
 cause_line (cause.Link f) = link_fault_line f
-cause_line cause.NotYet = []
 cause_line (cause.Foreign slot entry target temp) = []
 cause_line (cause.Intent slot line) = []

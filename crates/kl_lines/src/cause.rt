@@ -19,15 +19,14 @@ use kl_store::{Failed, Sink};
 const USAGE: &[u8] =
     b"usage: relink link DIR | reorder_kernel | reorder_libs | recover | generate N; --seed HEX may end all but recover\n";
 
-/// Writes why a command ended, in a line that scripts read. Nothing is written where all was done, where the form of a kit isn't linked
-/// yet, and of a recovery, whose lines are those of its slots.
+/// Writes why a command ended, in a line that scripts read. Nothing is written where all was done, and of a recovery, whose lines
+/// are those of its slots.
 pub fn write_cause<K: Sink>(out: &mut K, cause: &Cause) -> Result<(), Failed>
     ensures writes { Writes (cause_line cause.now) (K.meaning out.old) (K.meaning out.new) result }
     ensures cause { HasCause (K.faults out.old) (K.faults out.new) result }
 {
     match cause {
-        Cause::Done | Cause::Sink | Cause::NotYet | Cause::Foreign { .. } | Cause::Intent { .. } =>
-            Ok(()),
+        Cause::Done | Cause::Sink | Cause::Foreign { .. } | Cause::Intent { .. } => Ok(()),
         Cause::Usage => out.write(USAGE),
         Cause::NoMemory => out.write(b"relink: out of memory\n"),
         Cause::Store => out.write(b"relink: store fault\n"),
@@ -192,7 +191,7 @@ fn write_number<K: Sink>(out: &mut K, words: &[u8], number: u32) -> Result<(), F
     write_pieces(out, &[words, digits.format(number).as_bytes(), b"\n"])
 }
 
-/// Writes that an object isn't read, by its number and its line in the kit text.
+/// Writes that an object or an archive isn't read, by its number and its line in the kit text.
 fn write_object<K: Sink>(out: &mut K, input: u32, line: u32) -> Result<(), Failed>
     ensures writes { Writes (object_line input line) (K.meaning out.old) (K.meaning out.new) result }
     ensures cause { HasCause (K.faults out.old) (K.faults out.new) result }

@@ -1,6 +1,7 @@
 //! What is told a person of a command that was refused: one line or two, from its cause and from what stands in the files that it speaks of.
 #![tactic(auto)]
 
+mod archive;
 mod link;
 mod record;
 mod slot;

@@ -1,5 +1,5 @@
 // The fault of a link, by the names of files, sections and symbols.
-use crate::source::{KitText, Source, name_of_section, text_at};
+use crate::source::{InputName, KitText, Source, name_of_section, text_at};
 use kl_base::NoMemory;
 use kl_elf::abi::STT_SECTION;
 use kl_explain::{SectionName, Shown, TypeName};
@@ -170,7 +170,7 @@ fn tell_place(text: &mut String, sources: &[Source], from: &FieldAt) -> Result<(
         write!(text, "{from}")?;
         return Ok(());
     };
-    let file = Shown(source.name.bytes());
+    let file = InputName(source);
     let (Some(field), Some(object)) = (raw_field(source, from), &source.object) else {
         write!(text, "{file}, {from}")?;
         return Ok(());
@@ -187,7 +187,7 @@ fn tell_field(text: &mut String, sources: &[Source], from: &FieldAt) -> Result<(
         write!(text, "{from}")?;
         return Ok(());
     };
-    let file = Shown(source.name.bytes());
+    let file = InputName(source);
     let (Some(field), Some(object)) = (raw_field(source, from), &source.object) else {
         write!(text, "{file}: {from}")?;
         return Ok(());
@@ -228,7 +228,7 @@ fn tell_symbol(
         write!(text, "symbol {number} of input {input}")?;
         return Ok(());
     };
-    let file = Shown(source.name.bytes());
+    let file = InputName(source);
     let Some(object) = &source.object else {
         write!(text, "{file}, symbol {number}")?;
         return Ok(());

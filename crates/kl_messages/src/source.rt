@@ -1,12 +1,15 @@
 // The files of a kit, which are read once more for a message.
 ghost use Rattle.kl_store.specs.Calls.{Stays};
 
+use kl_ar::members;
 use kl_base::{INPUT_LIMIT, KIT_TEXT_LIMIT, NAME_LIMIT, Name, NoMemory, Range};
+use kl_explain::Shown;
 use kl_kit::read_kit;
 use kl_model::{Kit, KitInput, Object, Part, Section};
 use kl_rel::read_object;
 use kl_store::{Store, read_whole};
 use std::alloc::Global;
+use std::fmt;
 
 /// The bytes with which an archive of `ar` begins.
 const ARCHIVE: &[u8; 8] = b"!<arch>\n";
@@ -30,18 +33,36 @@ pub struct Source {
     pub input: u32,
     /// The name of its file.
     pub name: Name,
+    /// Its own name, where the file is an archive.
+    pub member: Option<Vec<u8>>,
+    /// Its bytes: of a member of an archive those of the member alone.
     pub bytes: Vec<u8>,
     /// The object that stands in the bytes, where they have no flaw.
     pub object: Option<Object>,
 }
 
-/// An archive in an input's place.
+/// The name of an input, as it is shown: that of its file, and behind it in parentheses its own where the file is an archive.
 #[derive(Clone, Copy)]
-pub struct Archive {
-    /// The name of its file.
-    pub name: Name,
-    /// Whether it names its members alone.
-    pub thin: bool,
+pub struct InputName<'a>(pub &'a Source);
+
+impl fmt::Display for InputName<'_> {
+    fn fmt<W: fmt::Write>(&self, f: &mut fmt::Formatter<W>) -> fmt::Result {
+        let file = Shown(self.0.name.bytes());
+        match &self.0.member {
+            Some(member) => {
+                let member = Shown(member);
+                write!(f, "{file}({member})")
+            }
+            None => write!(f, "{file}"),
+        }
+    }
+}
+
+/// Where an input stands: the line of its file, and its number among the inputs of that file.
+#[derive(Clone, Copy)]
+pub struct Place<'a> {
+    pub line: &'a KitInput,
+    pub number: usize,
 }
 
 /// The bytes of a range, as far as the file has them.
@@ -122,27 +143,115 @@ fn add_part<'a>(
     Ok(())
 }
 
-/// The input of a line, where it can be read.
-pub fn read_source<S: Store>(
+/// The name of the file of a line.
+pub fn file_of(dir: &Name, line: &KitInput) -> Option<Name> {
+    file_in(dir, line.file.items())
+}
+
+/// Where the input of a number stands, if each file before it can be read.
+pub fn find_input<'a, S: Store>(
+    alloc: Global,
+    dir: &Name,
+    lines: &[&'a KitInput],
+    input: u32,
+    store: &mut S,
+) -> Option<Place<'a>>
+    ensures still { Stays (S.meaning store.old) (S.meaning store.new) }
+{
+    let mut number = input as usize;
+    for line in lines {
+        let count = count_inputs(alloc, dir, line, store)?;
+        if number < count {
+            return Some(Place { line, number });
+        }
+        number -= count;
+    }
+    None
+}
+
+/// The number of inputs of a line, where its file can be read: the members of an archive, or one.
+fn count_inputs<S: Store>(
     alloc: Global,
     dir: &Name,
     line: &KitInput,
+    store: &mut S,
+) -> Option<usize>
+    ensures still { Stays (S.meaning store.old) (S.meaning store.new) }
+{
+    let name = file_of(dir, line)?;
+    let Ok(Some(_)) = store.size(&name) else {
+        return None;
+    };
+    let mut head = [0; ARCHIVE.len()];
+    let Ok(_) = store.read(&name, 0, &mut head) else {
+        return None;
+    };
+    if !is_archive(&head) {
+        return Some(1);
+    }
+    let Ok(bytes) = read_whole(alloc, store, &name, INPUT_LIMIT) else {
+        return None;
+    };
+    match members(alloc, &bytes) {
+        Ok(members) => Some(members.len()),
+        Err(_) => None,
+    }
+}
+
+/// Whether a file that begins so is an archive.
+fn is_archive(bytes: &[u8]) -> bool {
+    bytes.starts_with(ARCHIVE) || bytes.starts_with(THIN_ARCHIVE)
+}
+
+/// The input at a place, where it can be read.
+pub fn read_source<S: Store>(
+    alloc: Global,
+    dir: &Name,
+    place: &Place<'_>,
     input: u32,
     store: &mut S,
 ) -> Option<Source>
     ensures still { Stays (S.meaning store.old) (S.meaning store.new) }
 {
-    let name = file_in(dir, line.file.items())?;
-    let Ok(bytes) = read_whole(alloc, store, &name, INPUT_LIMIT) else {
+    let name = file_of(dir, place.line)?;
+    let Ok(file) = read_whole(alloc, store, &name, INPUT_LIMIT) else {
         return None;
     };
+    let (member, bytes) = input_in(alloc, file, place.number)?;
     let object = object_in(alloc, &bytes);
     Some(Source {
         input,
         name,
+        member,
         bytes,
         object,
     })
+}
+
+/// The input of a number in a file: its name where the file is an archive, and its bytes.
+fn input_in(alloc: Global, file: Vec<u8>, number: usize) -> Option<(Option<Vec<u8>>, Vec<u8>)> {
+    if !is_archive(&file) {
+        return Some((None, file));
+    }
+    let Ok(members) = members(alloc, &file) else {
+        return None;
+    };
+    let member = members.get(number)?;
+    let own = Range {
+        at: member.start,
+        len: member.len,
+    };
+    let name = copy_of(alloc, text_at(&file, member.name))?;
+    let bytes = copy_of(alloc, text_at(&file, own))?;
+    Some((Some(name), bytes))
+}
+
+/// A copy of bytes, where there is memory.
+fn copy_of(alloc: Global, bytes: &[u8]) -> Option<Vec<u8>> {
+    match Vec::from_slice(alloc, bytes) {
+        Ok(copy) => Some(copy),
+        Err(_) => None,
+    }
 }
 
 /// The object that stands in bytes without a flaw.
@@ -153,35 +262,5 @@ fn object_in(alloc: Global, bytes: &[u8]) -> Option<Object> {
     match read_object(alloc, bytes) {
         Ok(object) => Some(object),
         Err(_) => None,
-    }
-}
-
-/// The first of the lines whose input is an archive.
-pub fn find_archive<S: Store>(dir: &Name, lines: &[&KitInput], store: &mut S) -> Option<Archive>
-    ensures still { Stays (S.meaning store.old) (S.meaning store.new) }
-{
-    for line in lines {
-        let archive = archive_of(dir, line, store);
-        if archive.is_some() {
-            return archive;
-        }
-    }
-    None
-}
-
-/// The archive of a line, where its input is one.
-fn archive_of<S: Store>(dir: &Name, line: &KitInput, store: &mut S) -> Option<Archive>
-    ensures still { Stays (S.meaning store.old) (S.meaning store.new) }
-{
-    let name = file_in(dir, line.file.items())?;
-    let mut head = [0; ARCHIVE.len()];
-    let Ok(_) = store.read(&name, 0, &mut head) else {
-        return None;
-    };
-    let thin = head == *THIN_ARCHIVE;
-    if thin || head == *ARCHIVE {
-        Some(Archive { name, thin })
-    } else {
-        None
     }
 }

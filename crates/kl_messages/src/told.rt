@@ -1,13 +1,15 @@
 // The message of a cause.
 ghost use Rattle.kl_store.specs.Calls.{Stays};
 
+use crate::archive::tell_archive;
 use crate::link::{inputs_of, tell_fault};
 use crate::record::{tell_mismatch, tell_record};
 use crate::slot::{Unsound, read_entry, tell_foreign, tell_intent, tell_pending};
 use crate::source::{
-    Archive, KitText, Source, find_archive, kit_order, read_kit_text, read_source,
+    InputName, KitText, Source, file_of, find_input, kit_order, read_kit_text, read_source,
 };
 use crate::usage::{is_of_system, tell_words};
+use kl_ar::ArFault;
 use kl_base::{INPUT_LIMIT, KIT_TEXT_LIMIT, Name, NoMemory};
 use kl_explain::{Shown, tell_flaw, tell_kit_text};
 use kl_intent::Entry;
@@ -36,8 +38,8 @@ pub struct Ended<'a> {
 struct Again {
     text: KitText,
     sources: Vec<Source>,
-    /// The archive in an input's place, where that is the cause.
-    archive: Option<Archive>,
+    /// The name of the file whose line a cause names.
+    file: Option<Name>,
 }
 
 /// The lines that are told of a command, each with `relink: ` before it: none where all was done. Files are read again, and no name
@@ -69,7 +71,6 @@ fn is_of_kit(cause: &Cause) -> bool {
         cause,
         Cause::Object { .. }
             | Cause::Link(_)
-            | Cause::NotYet
             | Cause::Kit(KitCause::Text(_) | KitCause::Kind | KitCause::Total { .. })
     )
 }
@@ -89,22 +90,29 @@ fn read_again<S: Store>(
         return Ok(None);
     };
     let mut sources = Vec::new(alloc);
-    let mut archive = None;
+    let mut file = None;
     if let Some(kit) = &text.kit {
         let lines = kit_order(alloc, kit)?;
         sources = read_sources(alloc, &dir, &lines, ended.cause, store)?;
-        if *ended.cause == Cause::NotYet {
-            archive = find_archive(&dir, &lines, store);
-        }
+        file = named_file(&dir, &lines, ended.cause);
     }
     Ok(Some(Again {
         text,
         sources,
-        archive,
+        file,
     }))
 }
 
-/// Reads the inputs again that a cause speaks of, as far as they can be read. Its numbers are those of the lines in kit order.
+/// The name of the file whose line a cause names.
+fn named_file(dir: &Name, lines: &[&KitInput], cause: &Cause) -> Option<Name> {
+    let Cause::Object { line, .. } = cause else {
+        return None;
+    };
+    let named = lines.iter().find(|given| given.line == *line)?;
+    file_of(dir, named)
+}
+
+/// Reads the inputs again that a cause speaks of, as far as they can be read. Its numbers are those of the inputs in kit order.
 fn read_sources<S: Store>(
     alloc: Global,
     dir: &Name,
@@ -116,22 +124,23 @@ fn read_sources<S: Store>(
 {
     let mut sources = Vec::new(alloc);
     match cause {
-        Cause::Object { input, line, .. } => {
-            let found = lines.iter().find(|given| given.line == *line);
-            add_source(alloc, dir, found, *input, store, &mut sources)?;
-        }
+        Cause::Object {
+            input,
+            fault: ObjectCause::Elf(_),
+            ..
+        } => add_input(alloc, dir, lines, *input, store, &mut sources)?,
         Cause::Link(fault) => {
             let [first, second] = inputs_of(fault);
-            add_input(alloc, dir, lines, first, store, &mut sources)?;
-            add_input(alloc, dir, lines, second, store, &mut sources)?;
+            add_named(alloc, dir, lines, first, store, &mut sources)?;
+            add_named(alloc, dir, lines, second, store, &mut sources)?;
         }
         _ => {}
     }
     Ok(sources)
 }
 
-/// Adds the input of a number, where there is one and it can be read.
-fn add_input<S: Store>(
+/// Adds the input of a number, where a cause names one.
+fn add_named<S: Store>(
     alloc: Global,
     dir: &Name,
     lines: &[&KitInput],
@@ -142,29 +151,26 @@ fn add_input<S: Store>(
     ensures still { Stays (S.meaning store.old) (S.meaning store.new) }
 {
     match input {
-        Some(input) => {
-            let line = lines.get(input as usize);
-            add_source(alloc, dir, line, input, store, sources)
-        }
+        Some(input) => add_input(alloc, dir, lines, input, store, sources),
         None => Ok(()),
     }
 }
 
-/// Adds the input of a line, where there is one and it can be read.
-fn add_source<S: Store>(
+/// Adds the input of a number, where there is one and it can be read.
+fn add_input<S: Store>(
     alloc: Global,
     dir: &Name,
-    line: Option<&&KitInput>,
+    lines: &[&KitInput],
     input: u32,
     store: &mut S,
     sources: &mut Vec<Source>,
 ) -> Result<(), NoMemory>
     ensures still { Stays (S.meaning store.old) (S.meaning store.new) }
 {
-    let Some(line) = line else {
+    let Some(place) = find_input(alloc, dir, lines, input, store) else {
         return Ok(());
     };
-    if let Some(source) = read_source(alloc, dir, line, input, store) {
+    if let Some(source) = read_source(alloc, dir, &place, input, store) {
         sources.push(source)?;
     }
     Ok(())
@@ -245,18 +251,13 @@ fn tell_failure(text: &mut String, failure: Option<&str>) -> Result<(), NoMemory
 fn tell_kit_cause(text: &mut String, cause: &Cause, again: Option<&Again>) -> Result<(), NoMemory> {
     match (cause, again) {
         (Cause::Kit(cause), _) => tell_kit(text, cause, again),
-        (
-            Cause::Object {
-                input,
-                line,
-                fault: ObjectCause::Elf(fault),
-            },
-            Some(again),
-        ) => tell_object(text, again, (*input, *line), fault),
+        (Cause::Object { input, line, fault }, Some(again)) => match fault {
+            ObjectCause::Elf(fault) => tell_object(text, again, (*input, *line), fault),
+            ObjectCause::Ar(fault) => tell_archive_of(text, again, *line, fault),
+        },
         (Cause::Link(fault), Some(again)) => {
             tell_fault(text, &again.text, &again.sources, fault)
         }
-        (Cause::NotYet, Some(again)) => tell_not_yet(text, again),
         (cause, _) => {
             write!(text, "{cause}")?;
             Ok(())
@@ -320,7 +321,7 @@ fn tell_object(
 ) -> Result<(), NoMemory> {
     match again.sources.iter().find(|source| source.input == input) {
         Some(source) => {
-            let name = Shown(source.name.bytes());
+            let name = InputName(source);
             write!(text, "{name}: ")?;
             tell_flaw(text, &source.bytes, fault)
         }
@@ -332,21 +333,24 @@ fn tell_object(
     }
 }
 
-/// Tells what a kit has that isn't linked yet.
-fn tell_not_yet(text: &mut String, again: &Again) -> Result<(), NoMemory> {
-    if let Some(archive) = &again.archive {
-        let name = Shown(archive.name.bytes());
-        let what = if archive.thin {
-            "a thin archive isn't linked yet: name one of its objects"
-        } else {
-            "an archive isn't linked yet: 'ar x' takes its objects out"
-        };
-        write!(text, "{name}: {what}")?;
-        return Ok(());
+/// Tells the fault of the archive of a line.
+fn tell_archive_of(
+    text: &mut String,
+    again: &Again,
+    line: u32,
+    fault: &ArFault,
+) -> Result<(), NoMemory> {
+    match &again.file {
+        Some(file) => {
+            let name = Shown(file.bytes());
+            write!(text, "{name}: ")?;
+        }
+        None => {
+            let name = Shown(again.text.name.bytes());
+            write!(text, "{name}: line {line}: ")?;
+        }
     }
-    let name = Shown(again.text.name.bytes());
-    write!(text, "{name}: the kit is of a form that isn't linked yet")?;
-    Ok(())
+    tell_archive(text, fault)
 }
 
 /// Tells what comes next where a job on the files of the system was cut short, or was done and couldn't say so.

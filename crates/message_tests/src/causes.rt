@@ -588,10 +588,5 @@ fn tells_numbers_where_files_are_gone(rt: HostRuntime) -> Result<(), Fail> {
         text.as_str(),
         "relink: relocation 2 of section 2 of input 0 leads to a section that isn't linked\n"
     );
-    let text = told(alloc, &Cause::NotYet, &mut store)?;
-    assert_eq!(rt;
-        text.as_str(),
-        "relink: /kit/link.conf: the kit is of a form that isn't linked yet\n"
-    );
     Ok(())
 }

@@ -1,4 +1,5 @@
 use crate::kits::{kit_store, object, told};
+use kl_ar::ArFault;
 use kl_base::{Listed, Name};
 use kl_elf::HeadFault;
 use kl_jobs::{Cause, ObjectCause};
@@ -137,18 +138,100 @@ fn names_lines_of_edges(rt: HostRuntime) -> Result<(), Fail> {
     Ok(())
 }
 
+/// An archive as `ar` writes it, of `OBJECT` under these two names.
+fn archive(alloc: Global) -> Result<Vec<u8>, Fail> {
+    let mut bytes = Vec::new(alloc);
+    bytes.extend_from_slice(b"!<arch>\n")?;
+    let names: [&[u8; 16]; 2] = [b"first.o/        ", b"second.o/       "];
+    for name in names {
+        bytes.extend_from_slice(name)?;
+        bytes.extend_from_slice(b"0           0     0     644     856       `\n")?;
+        bytes.extend_from_slice(&object(alloc)?)?;
+    }
+    Ok(bytes)
+}
+
 #[test]
-fn names_what_is_not_linked_yet(rt: HostRuntime) -> Result<(), Fail> {
+fn names_members_of_archives(rt: HostRuntime) -> Result<(), Fail> {
     let alloc = rt.alloc();
-    let mut store = files_with(alloc, b"!<thin>\n", &object(alloc)?)?;
+    // in kit order `a.o`, `b.o`, two members of `d.o`, and `c.o`
+    let mut store = files_with(alloc, &object(alloc)?, &archive(alloc)?)?;
+    let machine = ReadFault {
+        kind: ReadKind::Head(HeadFault::Machine),
+        at: 18,
+    };
+    let cause = Cause::Object {
+        input: 3,
+        line: 9,
+        fault: ObjectCause::Elf(machine),
+    };
     assert_eq!(rt;
-        told(alloc, &Cause::NotYet, &mut store)?.as_str(),
-        "relink: /kit/c.o: a thin archive isn't linked yet: name one of its objects\n"
+        told(alloc, &cause, &mut store)?.as_str(),
+        "relink: /kit/d.o(second.o): not an x86-64 object (machine 62)\n"
     );
-    let mut store = files_with(alloc, b"!<thin>\n", b"!<arch>\n")?;
+    let fault = LinkFault::Doubled {
+        name: named(alloc, b"start")?,
+        first: (2, 5),
+        second: (4, 5),
+    };
     assert_eq!(rt;
-        told(alloc, &Cause::NotYet, &mut store)?.as_str(),
-        "relink: /kit/d.o: an archive isn't linked yet: 'ar x' takes its objects out\n"
+        told(alloc, &Cause::Link(fault), &mut store)?.as_str(),
+        "relink: 'start' is defined twice: by /kit/d.o(first.o), section .text, offset 0x0 (symbol 5) and by /kit/c.o, section .text, offset 0x0 (symbol 5)\n"
     );
+    // where a file before an input can't be counted any more its number is told, and no file
+    let mut store = files_with(alloc, &object(alloc)?, b"!<arch>\nk.o/")?;
+    let fault = LinkFault::Removed {
+        from: FieldAt {
+            input: 4,
+            section: 2,
+            index: 2,
+        },
+    };
+    assert_eq!(rt;
+        told(alloc, &Cause::Link(fault), &mut store)?.as_str(),
+        "relink: relocation 2 of section 2 of input 4 leads to a section that isn't linked\n"
+    );
+    Ok(())
+}
+
+#[test]
+fn tells_faults_of_archives(rt: HostRuntime) -> Result<(), Fail> {
+    let alloc = rt.alloc();
+    let mut store = files(alloc)?;
+    let rows = [
+        (
+            ArFault::Magic,
+            "no archive: it doesn't begin with '!<arch>'\n",
+        ),
+        (
+            ArFault::Thin,
+            "a thin archive, which only names its members: 'ar rcs' without 'T' makes one that holds them\n",
+        ),
+        (
+            ArFault::Truncated { at: 8 },
+            "the archive's member at 0x8 passes the end of the file, which may be cut short\n",
+        ),
+        (
+            ArFault::Header { at: 66 },
+            "the archive has no end of a member's header at 0x42: make it again with 'ar rcs'\n",
+        ),
+        (
+            ArFault::SizeText { at: 56 },
+            "the archive has no decimal size of a member at 0x38: make it again with 'ar rcs'\n",
+        ),
+        (
+            ArFault::LongName { at: 8 },
+            "the name of the archive's member at 0x8 isn't in the archive: make it again with 'ar rcs'\n",
+        ),
+    ];
+    for (fault, wanted) in rows {
+        let cause = Cause::Object {
+            input: 2,
+            line: 9,
+            fault: ObjectCause::Ar(fault),
+        };
+        let text = told(alloc, &cause, &mut store)?;
+        assert_eq!(rt; text.strip_prefix("relink: /kit/d.o: "), Some(wanted));
+    }
     Ok(())
 }

@@ -197,10 +197,6 @@ fn tells_faults_of_the_kernels_kit(rt: HostRuntime) -> Result<(), Fail> {
             Cause::Kit(KitCause::Kind),
             "it is a library's kit ('kind library'), and a kernel's is wanted ('kind kernel')\n",
         ),
-        (
-            Cause::NotYet,
-            "the kit is of a form that isn't linked yet\n",
-        ),
     ];
     for (cause, wanted) in rows {
         let text = told(alloc, b"reorder_kernel", &cause, &mut store)?;

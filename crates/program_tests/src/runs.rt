@@ -1,3 +1,4 @@
+use kl_ar::ArFault;
 use kl_base::{Listed, Name};
 use kl_cli::{Exit, run};
 use kl_elf::HeadFault;
@@ -378,17 +379,88 @@ fn links_a_library(rt: HostRuntime) -> Result<(), Fail> {
     Ok(())
 }
 
+/// An archive as `ar` writes it: `OBJECT`, and other bytes whose size is this text.
+fn archive(alloc: Global, size: &[u8; 10], other: &[u8]) -> Result<Vec<u8>, Fail> {
+    let mut bytes = Vec::new(alloc);
+    bytes.extend_from_slice(b"!<arch>\nk.o/            ")?;
+    bytes.extend_from_slice(b"0           0     0     644     480       `\n")?;
+    bytes.extend_from_slice(&object(alloc)?)?;
+    bytes.extend_from_slice(b"c.o/            ")?;
+    bytes.extend_from_slice(b"0           0     0     644     ")?;
+    bytes.extend_from_slice(size)?;
+    bytes.extend_from_slice(b"`\n")?;
+    bytes.extend_from_slice(other)?;
+    Ok(bytes)
+}
+
+/// A library's kit of an archive alone.
+const ARCHIVE_KIT: &[u8] = b"kind library\noutput /usr/lib/libk.so.1\nobject l.a\n";
+
+/// A store with that kit and these bytes as its archive.
+fn archive_store(alloc: Global, archive: &[u8]) -> Result<MemStore, Fail> {
+    let mut store = MemStore::new(alloc);
+    store.put(&named(b"/kit/link.conf")?, ARCHIVE_KIT)?;
+    store.put(&named(b"/kit/l.a")?, archive)?;
+    Ok(store)
+}
+
+/// Each member of an archive is an input.
 #[test]
-fn refuses_archives(rt: HostRuntime) -> Result<(), Fail> {
+fn links_the_members_of_an_archive(rt: HostRuntime) -> Result<(), Fail> {
     let alloc = rt.alloc();
-    let good = object(alloc)?;
-    // with members, and a thin one
-    let archives: [&[u8]; 2] = [b"!<arch>\n", b"!<thin>\n"];
-    for archive in archives {
-        let text = b"kind kernel\noutput /bsd\nentry start\nhead k.o\nobject l.a\n";
-        let mut store = two_store(alloc, text, &good, b"/kit/l.a", archive)?;
-        let (exit, _) = answer(alloc, &[b"link", b"/kit"], &mut store)?;
-        assert_eq!(rt; (exit.status, exit.cause), (19, Cause::NotYet));
+    let mut call = hex::decode(alloc, CALL)?;
+    let mut store = archive_store(alloc, &archive(alloc, b"576       ", &call)?)?;
+    let (exit, _) = answer(alloc, &[b"link", b"/kit"], &mut store)?;
+    assert_eq!(rt; (exit.status, exit.cause), (0, Cause::Done));
+    let map = store
+        .get(&named(b"/kit/linked.map.relink")?)
+        .ok_or("a map")?;
+    let pieces: [&[u8]; 2] = [b"\npiece 0 1 ", b"\npiece 1 1 "];
+    for piece in pieces {
+        assert!(rt;
+            map.windows(piece.len()).any(|part| part == piece),
+            "{piece:?}"
+        );
+    }
+    assert!(rt; !call.is_empty());
+    call[0] = 0;
+    let mut store = archive_store(alloc, &archive(alloc, b"576       ", &call)?)?;
+    let (exit, _) = answer(alloc, &[b"link", b"/kit"], &mut store)?;
+    let fault = ReadFault {
+        kind: ReadKind::Head(HeadFault::Magic),
+        at: 0,
+    };
+    let cause = Cause::Object {
+        input: 1,
+        line: 3,
+        fault: ObjectCause::Elf(fault),
+    };
+    assert_eq!(rt; (exit.status, exit.cause), (13, cause));
+    Ok(())
+}
+
+/// The fault of an archive is told before any flaw of its members, at the number of its first one.
+#[test]
+fn tells_the_fault_of_an_archive(rt: HostRuntime) -> Result<(), Fail> {
+    let alloc = rt.alloc();
+    let text = b"kind kernel\noutput /bsd\nentry start\nobject k.o\nobject l.a\n";
+    let mut bad = archive(alloc, b"12x       ", b"no object")?;
+    assert!(rt; bad.len() > 68);
+    bad[68] = 0;
+    let rows: [(&[u8], ArFault); 2] = [
+        (&bad, ArFault::SizeText { at: 596 }),
+        (b"!<thin>\n", ArFault::Thin),
+    ];
+    for (archive, fault) in rows {
+        let mut store = two_store(alloc, text, &object(alloc)?, b"/kit/l.a", archive)?;
+        let (exit, out) = answer(alloc, &[b"link", b"/kit"], &mut store)?;
+        let cause = Cause::Object {
+            input: 1,
+            line: 5,
+            fault: ObjectCause::Ar(fault),
+        };
+        assert_eq!(rt; (exit.status, exit.cause), (13, cause));
+        assert_eq!(rt; out.bytes(), b"relink: object 1 line 5\n".as_slice());
     }
     Ok(())
 }

@@ -21,13 +21,13 @@ overflow_add-more-in-Err-TooManyFields-3 c =
 pub returns-in-Err-Flaw-clause-refused : goal.returns-in-Err-Flaw-clause-refused
 returns-in-Err-Flaw-clause-refused c = λ before counts.
     let stands = subst (IsAnswerWithin (flaw c.args.bytes.now) (object c.args.bytes.now) FIELD_COUNT_LIMIT) c.in-Err-Flaw.field-0-is c.in-Err-Flaw.ensures.refused in
-    inr (flaw_refused c.args.line.now.line before c.args.line.now.place c.args.bytes.now c.in-Err-Flaw.fault c.args.totals.now.inputs counts.inputs_are c.requires.plain stands)
+    inr (flaw_refused c.args.line.now.line before c.args.line.now.place c.args.bytes.now c.in-Err-Flaw.fault c.args.totals.now.inputs counts.inputs_are stands)
 
 pub returns-in-Err-TooManyFields-clause-refused : goal.returns-in-Err-TooManyFields-clause-refused
 returns-in-Err-TooManyFields-clause-refused c = λ before counts.
     let t = c.args.totals.now in
     let many = subst (IsAnswerWithin (flaw c.args.bytes.now) (object c.args.bytes.now) FIELD_COUNT_LIMIT) c.in-Err-TooManyFields.field-0-is c.in-Err-TooManyFields.ensures.refused in
     let refused = many_refused c.args.line.now.line before c.args.line.now.place c.args.bytes.now t.inputs t.bytes t.sections t.symbols t.fields
-    c.in-Err-TooManyFields.sections c.in-Err-TooManyFields.symbols counts c.requires.plain many.0 many.1.0 many.1.1.sections_are many.1.1.symbols_are in
+    c.in-Err-TooManyFields.sections c.in-Err-TooManyFields.symbols counts many.0 many.1.0 many.1.1.sections_are many.1.1.symbols_are in
     let what = c.unwrap_or-what.ensures ∙ ap (λ o. unwrap_or o Fields) c.over_limit.ensures in
     inr (refused ∙ ap (λ w. Some (total_cause c.args.line.now.line w)) (sym what))

@@ -3,7 +3,7 @@ use Rattle.std.specs.Prelude.{None}
 use Rattle.kl_base.specs.Names.{name_fault}
 use Rattle.kl_base.specs.declared.limits.TheConstants.{FILE_LIMIT}
 use Rattle.kl_model.specs.declared.kit.KitInput.{KitInput}
-use Rattle.kl_jobs.proofs.KitLines.{are_fit, file_len, file_name, order_lines}
+use Rattle.kl_jobs.proofs.KitLines.{are_fit, file_len, file_name, in_kit_order, order_lines}
 use Rattle.kl_jobs.proofs.source.read_lines.Goals as goal
 
 pub read_inputs-requires-clause-files : goal.read_inputs-requires-clause-files
@@ -17,5 +17,6 @@ read_inputs-requires-clause-names g c =
 pub returns-clause-linkable : goal.returns-clause-linkable
 returns-clause-linkable g c = record {
   form = c.requires.form;
-  fit = are_fit c.in_ok-inputs.inputs.items c.args.kit.now.inputs c.in_ok-inputs.ensures.fit c.in_ok-inputs.ensures.within (rw (c.deref.ensures.value, c.in_ok-lines.ensures, c.items.ensures) at c.in_ok-inputs.ensures.places);
+  fit = are_fit c.in_ok-inputs.inputs.items c.in_ok-inputs.ensures.fit c.in_ok-inputs.ensures.within
+      ((rw (c.deref.ensures.value, c.in_ok-lines.ensures, c.items.ensures) at c.in_ok-inputs.ensures.places) (in_kit_order c.args.kit.now.inputs));
 }
