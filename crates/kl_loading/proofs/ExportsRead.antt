@@ -65,10 +65,10 @@ module _ (img : List ℕ) (p : Placement) (kit : Kit) (inputs : List Input) (g :
   strings = start + (tables_of kit g).strings
 
   all_there : HasAt img start (tables_bytes kit inputs g p)
-  all_there = tables_there img p kit inputs g gaps order library laid numbers holds texts
+  all_there = tables_there img p kit inputs g gaps order library laid numbers holds.file holds.made texts
 
   fit : (8 ≤ (tables_of kit g).symbols) × ((tables_of kit g).symbols + (24 * symbol_count g + strings_size kit g) ≤ (tables_of kit g).relas)
-  fit = parts_fit img p kit inputs g gaps order library laid numbers holds texts
+  fit = parts_fit img p kit inputs g gaps order library laid numbers holds.file holds.made texts
 
   few : length g.names < 2 ^ 31
   few = let limit = laid.sound.name_count in omega (arith, limit)
@@ -76,20 +76,20 @@ module _ (img : List ℕ) (p : Placement) (kit : Kit) (inputs : List Input) (g :
   -- the three tables
   hash_at : table_at img 4 8 ≡ Some start
   hash_at =
-      place_is img p kit inputs g gaps order library laid numbers holds texts 4 8 (entry img p kit inputs g gaps order library laid numbers holds texts 4)
-      (hash_entry img p kit inputs g gaps order library laid numbers holds texts) (omega arith) (omega arith) (omega (arith, fit.0, fit.1))
+      place_is img p kit inputs g gaps order library laid numbers holds.file holds.made texts 4 8 (entry img p kit inputs g gaps order library laid numbers holds.file holds.made texts 4)
+      (hash_entry img p kit inputs g gaps order library laid numbers holds.file holds.made texts) (omega arith) (omega arith) (omega (arith, fit.0, fit.1))
 
   symbols_at : table_at img 6 (24 * chain_count img) ≡ Some symbols
   symbols_at =
-      ap (λ c. table_at img 6 (24 * c)) (count_is img p kit inputs g gaps order library laid numbers holds texts)
-      ∙ place_is img p kit inputs g gaps order library laid numbers holds texts 6 (24 * symbol_count g) (entry img p kit inputs g gaps order library laid numbers holds texts 6)
-      (symbol_entry img p kit inputs g gaps order library laid numbers holds texts) (omega arith) (omega arith) (omega (arith, fit.1))
+      ap (λ c. table_at img 6 (24 * c)) (count_is img p kit inputs g gaps order library laid numbers holds.file holds.made texts)
+      ∙ place_is img p kit inputs g gaps order library laid numbers holds.file holds.made texts 6 (24 * symbol_count g) (entry img p kit inputs g gaps order library laid numbers holds.file holds.made texts 6)
+      (symbol_entry img p kit inputs g gaps order library laid numbers holds.file holds.made texts) (omega arith) (omega arith) (omega (arith, fit.1))
 
   strings_at : table_at img 5 (dyn_value img 10) ≡ Some strings
   strings_at =
-      ap (table_at img 5) (size_is img p kit inputs g gaps order library laid numbers holds texts)
-      ∙ place_is img p kit inputs g gaps order library laid numbers holds texts 5 (strings_size kit g) (entry img p kit inputs g gaps order library laid numbers holds texts 5)
-      (string_entry img p kit inputs g gaps order library laid numbers holds texts) (some_strings img p kit inputs g gaps order library laid numbers holds texts) (omega arith) (omega (arith, fit.1))
+      ap (table_at img 5) (size_is img p kit inputs g gaps order library laid numbers holds.file holds.made texts)
+      ∙ place_is img p kit inputs g gaps order library laid numbers holds.file holds.made texts 5 (strings_size kit g) (entry img p kit inputs g gaps order library laid numbers holds.file holds.made texts 5)
+      (string_entry img p kit inputs g gaps order library laid numbers holds.file holds.made texts) (some_strings img p kit inputs g gaps order library laid numbers holds.file holds.made texts) (omega arith) (omega (arith, fit.1))
 
   -- a symbol's numbers
   sym_small : (n : ℕ) → n < length g.names → IsSmallSym (sym_of p g (text_place 1 n g.names) (get_or g.names n no_dyn))

@@ -23,7 +23,7 @@ wide_kind (Some row) h = refl
 -- THE LAW of a file
 pub library_reaches : LibraryReaches
 library_reaches img p kit inputs g gaps order library l numbers holds texts fits only = λ i d h base r loads words.
-    let back = tables.tables_are img p kit inputs g gaps order library l numbers holds texts in
+    let back = tables.tables_are img p kit inputs g gaps order library l numbers holds.file holds.made texts in
     reaches kit inputs g gaps order p library l numbers only.writable img holds back.relas back.names base r loads words (no_range_faults p g fits) only.fixed
     (λ k c q. wide_kind (relocation_type (get_or g.fields k c).kind) (l.sound.fields k c q).wide) i d h
 

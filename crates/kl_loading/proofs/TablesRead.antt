@@ -11,7 +11,7 @@ use Rattle.kl_le.specs.Bytes.{num}
 use Rattle.kl_elf.specs.Records.{ehdr_at}
 use Rattle.kl_elf.specs.declared.records.Dyn.{Dyn}
 use Rattle.kl_elf.specs.declared.records.Rela.{Rela}
-use Rattle.kl_model.specs.Carries.{AreaHolds, ends_at, head_for, library_segments, segments_for}
+use Rattle.kl_model.specs.Carries.{AreaHolds, File, LibraryMade, ends_at, head_for, library_segments, segments_for}
 use Rattle.kl_model.specs.Kits.{is_kernel}
 use Rattle.kl_model.specs.Laid.{area_at}
 use Rattle.kl_model.specs.Loaded.{chain_count, dyn_entry, dyn_value, dynamics, dyns_from, file_at, name_in, relas, relas_from, relas_in, strings_in, table_at, text_in}
@@ -27,7 +27,7 @@ use Rattle.kl_model.specs.declared.kit.Kit.{Kit}
 use Rattle.kl_model.specs.declared.kit.KitKind.TheVariants.{Library}
 use Rattle.kl_model.specs.declared.object.Input.{Input}
 use Rattle.kl_model.proofs.ClassMemory.{InOrder}
-use Rattle.kl_write.specs.LaidKits.{HasAreaAddresses, IsLaidKit, LibraryHolds}
+use Rattle.kl_write.specs.LaidKits.{HasAreaAddresses, IsLaidKit}
 use Rattle.kl_write.proofs.ReadHeaders.{HasAt, has_left, has_num, has_right, take_is}
 use Rattle.kl_loading.specs.TablesReadBack.{HasTexts, TablesAre}
 use Rattle.kl_loading.proofs.Library.{base, dynamic_end, dynamic_inside, dynamic_size, dynamic_small, front, has_tables, in_order_too, length-dynamic, some_tags, tables_inside, tables_low, tables_size}
@@ -47,31 +47,32 @@ some_length zero e = cc
 some_length (suc n) e = omega arith
 
 module _ (img : List ℕ) (p : Placement) (kit : Kit) (inputs : List Input) (g : Graph) (gaps : Option Gaps) (order : List ℕ) (library : kit.kind ≡ Library) (laid : IsLaidKit kit g gaps order p)
-    (numbers : HasAreaAddresses p) (holds : LibraryHolds img p kit inputs g gaps order) (texts : HasTexts inputs g) where
+    (numbers : HasAreaAddresses p) (file : File img (head_for kit.kind (segments_for kit.kind (page_of kit g) p) p g) (segments_for kit.kind (page_of kit g) p)) (made : LibraryMade img p kit inputs g)
+    (texts : HasTexts inputs g) where
   abbrev page : ℕ
   page = page_of kit g
 
   abbrev pub start : ℕ
   start = (area_at p 8).start
 
-  headers : segments img ≡ library_segments page p
-  headers = holds.file.segments ∙ ap (λ k. segments_for k page p) library
+  pub headers : segments img ≡ library_segments page p
+  headers = file.segments ∙ ap (λ k. segments_for k page p) library
 
-  len : length img ≡ ends_at (64 + 56 * length (library_segments page p)) (library_segments page p)
-  len = holds.file.len ∙ ap (λ k. ends_at (64 + 56 * length (segments_for k page p)) (segments_for k page p)) library
+  pub len : length img ≡ ends_at (64 + 56 * length (library_segments page p)) (library_segments page p)
+  len = file.len ∙ ap (λ k. ends_at (64 + 56 * length (segments_for k page p)) (segments_for k page p)) library
 
-  type : (ehdr_at img 0).kind ≡ 3
-  type = ap (λ h. h.kind) holds.file.head ∙ ap (λ k. (head_for k (segments_for k page p) p g).kind) library
+  pub type : (ehdr_at img 0).kind ≡ 3
+  type = ap (λ h. h.kind) file.head ∙ ap (λ k. (head_for k (segments_for k page p) p g).kind) library
 
-  ordered : InOrder p
+  pub ordered : InOrder p
   ordered = in_order_too kit inputs g gaps order p library laid numbers
 
   -- the tables and the dynamic section stand in the file
   tables_held : AreaHolds img p 8 Rodata (tables_bytes kit inputs g p)
-  tables_held = subst (AreaHolds img p 8 Rodata) (ap (λ k. if is_kernel k then [] else tables_bytes kit inputs g p) library) holds.made.tables
+  tables_held = subst (AreaHolds img p 8 Rodata) (ap (λ k. if is_kernel k then [] else tables_bytes kit inputs g p) library) made.tables
 
   dynamic_held : AreaHolds img p 14 Rwdata (flat_map dyn_bytes (dynamic_of kit g p))
-  dynamic_held = subst (AreaHolds img p 14 Rwdata) (ap (λ k. if is_kernel k then [] else flat_map dyn_bytes (dynamic_of kit g p)) library) holds.made.dynamic
+  dynamic_held = subst (AreaHolds img p 14 Rwdata) (ap (λ k. if is_kernel k then [] else flat_map dyn_bytes (dynamic_of kit g p)) library) made.dynamic
 
   pub tables_there : HasAt img start (tables_bytes kit inputs g p)
   tables_there =
@@ -84,10 +85,10 @@ module _ (img : List ℕ) (p : Placement) (kit : Kit) (inputs : List Input) (g :
   length-dyns : length (flat_map dyn_bytes (dynamic_of kit g p)) ≡ 16 * length (dynamic_of kit g p)
   length-dyns = length-rows dyn_bytes 16 (dynamic_of kit g p) length-dyn
 
-  dynamic_is : (made_of kit g).dynamic ≡ 16 * length (dynamic_of kit g p)
+  pub dynamic_is : (made_of kit g).dynamic ≡ 16 * length (dynamic_of kit g p)
   dynamic_is = dynamic_size kit inputs g gaps order p library laid numbers ∙ ap (λ n. 16 * n) (sym (length-dynamic kit g p))
 
-  has_dynamic : 0 < (made_of kit g).dynamic
+  pub has_dynamic : 0 < (made_of kit g).dynamic
   has_dynamic = omega (arith, dynamic_is, length-dynamic kit g p, some_tags kit g)
 
   dynamic_there : HasAt img (area_at p 14).start (flat_map dyn_bytes (dynamic_of kit g p))
@@ -98,7 +99,7 @@ module _ (img : List ℕ) (p : Placement) (kit : Kit) (inputs : List Input) (g :
       (omega (arith, w.0), omega (arith, w.1, l, dynamic_is, length-dyns)))
 
   -- THE DYNAMIC SECTION
-  dynamics_are : dynamics img ≡ before_first (λ d. d.tag == 0) (dynamic_of kit g p)
+  pub dynamics_are : dynamics img ≡ before_first (λ d. d.tag == 0) (dynamic_of kit g p)
   dynamics_are =
       let s = dynamic_found img p page (base kit inputs g gaps order p library laid numbers) ordered (front kit inputs g gaps order p library laid numbers) headers len in
       let end = dynamic_end kit inputs g gaps order p library laid numbers has_dynamic in
@@ -110,7 +111,7 @@ module _ (img : List ℕ) (p : Placement) (kit : Kit) (inputs : List Input) (g :
   abbrev pub value : ℕ → ℕ
   value = tag_value kit g p
 
-  entry_first : (t : ℕ) → not (1 == 0) && not (1 == t) ≡ true → dyn_entry img t ≡ first_with t (rows t value (tags kit g))
+  pub entry_first : (t : ℕ) → not (1 == 0) && not (1 == t) ≡ true → dyn_entry img t ≡ first_with t (rows t value (tags kit g))
   entry_first t h = ap (find (λ d. d.tag == t)) dynamics_are ∙ pass_needed t (names_size g + soname_size kit) kit.needed (rows t value (tags kit g)) h
 
   abbrev pub entry : ℕ → Dyn
@@ -131,13 +132,16 @@ module _ (img : List ℕ) (p : Placement) (kit : Kit) (inputs : List Input) (g :
   abbrev five : List ℕ
   five = 4 ∷ 5 ∷ 6 ∷ 10 ∷ 11 ∷ []
 
-  -- a table in rodata
-  pub place_is : (tag n : ℕ) (d : Dyn) → dyn_entry img tag ≡ Some d → 0 < n → start ≤ d.value → d.value + n ≤ start + (tables_of kit g).stop → table_at img tag n ≡ Some d.value
-  place_is tag n d e some from to =
+  -- bytes of the tables are in the file, at their addresses
+  pub inside_is : (a n : ℕ) → 0 < n → start ≤ a → a + n ≤ start + (tables_of kit g).stop → file_at img a n ≡ Some a
+  inside_is a n some from to =
       let w = tables_inside kit inputs g gaps order p library laid numbers 0 (has_tables kit inputs g gaps order p library laid numbers) in
       let size = tables_size kit inputs g gaps order p library laid numbers in
-      ap (λ o. option_and_then (λ d. file_at img d.value n) o) e
-      ∙ rodata_at img p page (base kit inputs g gaps order p library laid numbers) ordered (front kit inputs g gaps order p library laid numbers) headers len d.value n some (omega (arith, w.0, from)) (omega (arith, w.1, to, size))
+      rodata_at img p page (base kit inputs g gaps order p library laid numbers) ordered (front kit inputs g gaps order p library laid numbers) headers len a n some (omega (arith, w.0, from)) (omega (arith, w.1, to, size))
+
+  -- a table in rodata
+  pub place_is : (tag n : ℕ) (d : Dyn) → dyn_entry img tag ≡ Some d → 0 < n → start ≤ d.value → d.value + n ≤ start + (tables_of kit g).stop → table_at img tag n ≡ Some d.value
+  place_is tag n d e some from to = ap (λ o. option_and_then (λ d. file_at img d.value n) o) e ∙ inside_is d.value n some from to
 
   pub parts_fit : (8 ≤ (tables_of kit g).symbols) × ((tables_of kit g).symbols + (24 * symbol_count g + strings_size kit g) ≤ (tables_of kit g).relas)
   parts_fit = sizes_fit kit inputs g p texts

@@ -5,3 +5,5 @@
 mod found;
 #[cfg(test)]
 mod hashes;
+#[cfg(test)]
+mod linked;

@@ -1,0 +1,10 @@
+pub mod Segments
+pub mod Heads
+pub mod Page
+pub mod Kernels
+pub mod Entries
+pub mod Tables
+pub mod Libraries
+pub mod Addresses
+pub mod Given
+pub mod Refused
